@@ -1,0 +1,20 @@
+// Examples of what the devices do, on small cards: what a mount refuses, what a range past the
+// size gets, how a life ends, and what each choice of a cut leaves.
+use storage::refusal::Refusal;
+
+#[cfg(test)]
+mod image;
+#[cfg(test)]
+mod sector;
+
+// 0 for a call that was served, else the number of its refusal.
+pub fn number<O: Drop, G: Drop>(answer: Result<(), Refusal<O, G>>) -> u8 {
+    match answer {
+        Ok(()) => 0,
+        Err(refusal) => refusal.number(),
+    }
+}
+
+pub fn same(a: &[u8], b: &[u8]) -> bool {
+    a == b
+}

@@ -1,0 +1,9 @@
+pub mod Sizes
+pub mod Cells
+pub mod Standing
+pub mod Lives
+pub mod Refusals
+pub mod Meaning
+pub mod Calls
+pub mod Cuts
+pub mod Stores
