@@ -43,7 +43,11 @@ fn cut_takes_one_choice_a_cell(rt: LibcRuntime) -> Result<(), Fail> {
     let mut durable = vec![in rt.alloc(); b'a'; SIZE]?;
     let mut visible = vec![in rt.alloc(); 0u8; SIZE]?;
     let mut torn = vec![in rt.alloc(); true; SIZE]?;
-    let parts = ImageParts { durable: &mut durable, visible: &mut visible, torn: &mut torn };
+    let parts = ImageParts {
+        durable: &mut durable,
+        visible: &mut visible,
+        torn: &mut torn,
+    };
     let Ok(mut image) = Image::mount(parts) else {
         return Err(Fail::new("not mounted"));
     };
@@ -51,7 +55,8 @@ fn cut_takes_one_choice_a_cell(rt: LibcRuntime) -> Result<(), Fail> {
     image.cut(&[50, 0, 1])?;
     let mut buf = [0u8; 80];
     check_eq(number(image.read(0, &mut buf)), 0)?;
-    let expected = b"aaaaaaaa22222222aaaaaaaaaaaaaaaabbbbbbbbbbbbbbbbaaaaaaaaaaaaaaaaaaaaaaaaaaaaaaaa";
+    let expected =
+        b"aaaaaaaa22222222aaaaaaaaaaaaaaaabbbbbbbbbbbbbbbbaaaaaaaaaaaaaaaaaaaaaaaaaaaaaaaa";
     check(same(&buf[0..80], expected))
 }
 
@@ -60,7 +65,11 @@ fn torn_stays_torn_under_a_whole_cell(rt: LibcRuntime) -> Result<(), Fail> {
     let mut durable = vec![in rt.alloc(); b'a'; SIZE]?;
     let mut visible = vec![in rt.alloc(); 0u8; SIZE]?;
     let mut torn = vec![in rt.alloc(); true; SIZE]?;
-    let parts = ImageParts { durable: &mut durable, visible: &mut visible, torn: &mut torn };
+    let parts = ImageParts {
+        durable: &mut durable,
+        visible: &mut visible,
+        torn: &mut torn,
+    };
     let Ok(mut image) = Image::mount(parts) else {
         return Err(Fail::new("not mounted"));
     };
@@ -77,7 +86,11 @@ fn life_counts_writes_and_syncs(rt: LibcRuntime) -> Result<(), Fail> {
     let mut durable = vec![in rt.alloc(); b'a'; SIZE]?;
     let mut visible = vec![in rt.alloc(); 0u8; SIZE]?;
     let mut torn = vec![in rt.alloc(); true; SIZE]?;
-    let parts = ImageParts { durable: &mut durable, visible: &mut visible, torn: &mut torn };
+    let parts = ImageParts {
+        durable: &mut durable,
+        visible: &mut visible,
+        torn: &mut torn,
+    };
     let Ok(mut image) = Image::mount(parts) else {
         return Err(Fail::new("not mounted"));
     };
@@ -102,7 +115,11 @@ fn range_is_checked_first(rt: LibcRuntime) -> Result<(), Fail> {
     let mut durable = vec![in rt.alloc(); b'a'; SIZE]?;
     let mut visible = vec![in rt.alloc(); 0u8; SIZE]?;
     let mut torn = vec![in rt.alloc(); true; SIZE]?;
-    let parts = ImageParts { durable: &mut durable, visible: &mut visible, torn: &mut torn };
+    let parts = ImageParts {
+        durable: &mut durable,
+        visible: &mut visible,
+        torn: &mut torn,
+    };
     let Ok(mut image) = Image::mount(parts) else {
         return Err(Fail::new("not mounted"));
     };

@@ -15,7 +15,10 @@ const SIZE: usize = 4_096;
 fn mounts_only_a_legal_size_of_two_equal_parts(rt: LibcRuntime) -> Result<(), Fail> {
     let mut durable = vec![in rt.alloc(); 7u8; SIZE + 256]?;
     let mut visible = vec![in rt.alloc(); 9u8; SIZE + 256]?;
-    let parts = SectorParts { durable: &mut durable, visible: &mut visible };
+    let parts = SectorParts {
+        durable: &mut durable,
+        visible: &mut visible,
+    };
     match SectorDevice::mount(parts) {
         Ok(_) => Err(Fail::new("mounted")),
         Err(back) => {
@@ -30,7 +33,10 @@ fn life_ends_between_sectors(rt: LibcRuntime) -> Result<(), Fail> {
     let mut durable = vec![in rt.alloc(); b'a'; SIZE]?;
     let mut visible = vec![in rt.alloc(); 0u8; SIZE]?;
     let bytes = vec![in rt.alloc(); b'b'; 1_024]?;
-    let parts = SectorParts { durable: &mut durable, visible: &mut visible };
+    let parts = SectorParts {
+        durable: &mut durable,
+        visible: &mut visible,
+    };
     let Ok(mut device) = SectorDevice::mount(parts) else {
         return Err(Fail::new("not mounted"));
     };
@@ -50,7 +56,10 @@ fn life_ends_between_sectors(rt: LibcRuntime) -> Result<(), Fail> {
 fn sync_takes_a_step(rt: LibcRuntime) -> Result<(), Fail> {
     let mut durable = vec![in rt.alloc(); b'a'; SIZE]?;
     let mut visible = vec![in rt.alloc(); 0u8; SIZE]?;
-    let parts = SectorParts { durable: &mut durable, visible: &mut visible };
+    let parts = SectorParts {
+        durable: &mut durable,
+        visible: &mut visible,
+    };
     let Ok(mut device) = SectorDevice::mount(parts) else {
         return Err(Fail::new("not mounted"));
     };
@@ -69,7 +78,10 @@ fn cut_takes_one_choice_a_sector(rt: LibcRuntime) -> Result<(), Fail> {
     let mut durable = vec![in rt.alloc(); b'a'; SIZE]?;
     let mut visible = vec![in rt.alloc(); 0u8; SIZE]?;
     let bytes = vec![in rt.alloc(); b'b'; 2_048]?;
-    let parts = SectorParts { durable: &mut durable, visible: &mut visible };
+    let parts = SectorParts {
+        durable: &mut durable,
+        visible: &mut visible,
+    };
     let Ok(mut device) = SectorDevice::mount(parts) else {
         return Err(Fail::new("not mounted"));
     };

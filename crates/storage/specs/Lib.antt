@@ -7,3 +7,4 @@ pub mod Meaning
 pub mod Calls
 pub mod Cuts
 pub mod Stores
+pub mod Layers

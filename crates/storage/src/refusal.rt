@@ -27,6 +27,24 @@ pub impl Chain for Link as LinkChain {
     }
 }
 
+// The fault of a layer: its own link, and the fault of the storage below, whole.
+#[derive(Debug, Drop)]
+pub struct LayerFault<F> {
+    pub link: Link,
+    pub below: F,
+}
+
+pub impl<F: Chain> Chain for LayerFault<F> as LayerFaultChain {
+    ghost links = { λ f. step (f .link) ∷ F·Chain .links (f .below) };
+
+    fn link(&self, i: usize) -> Option<Link> {
+        if i < 1 {
+            return Some(self.link);
+        }
+        self.below.link(i - 1)
+    }
+}
+
 // Why a storage declined: the range passes its size, or it does not live.
 #[derive(Debug, Drop)]
 pub enum Refusal<O, G> {
