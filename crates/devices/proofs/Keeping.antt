@@ -13,7 +13,8 @@ use Rattle.storage.proofs.Marks.{length-marked, newly-marked}
 use Rattle.devices.specs.Devices.{Held, lost, serves, broken, written}
 use Rattle.devices.specs.Rules.{Rules}
 use Rattle.devices.specs.Image.{image, image-pick}
-use Rattle.devices.specs.Sector.{sector, sector-pick, touched, upto}
+use Rattle.storage.specs.Sectors.{touched}
+use Rattle.devices.specs.Sector.{sector, sector-pick, upto}
 use Rattle.devices.proofs.Doing.{same-held, laid-none, no-life}
 
 image-pick-one : (c : ℕ) → ((d v : ℕ) (t : Bool) → image-pick c d v t ≡ v) ⊎ ((d v : ℕ) → image-pick c d v false ≡ d)

@@ -16,26 +16,9 @@ use Rattle.storage.specs.declared.life.Life.{Life}
 use Rattle.storage.specs.declared.life.Life.the-variants.{Endless, Left}
 use Rattle.storage.specs.Lives.{lessened, enough}
 use Rattle.devices.specs.Devices.{left}
-use Rattle.devices.specs.Sector.{touched, upto}
-
--- n bytes at o end with a sector, or there are none
-abbrev pub Even : ℕ → ℕ → Type 0
-Even o n = (n ≡ 0) ⊎ ((o + n) % 512 ≡ 0)
-
-pub touched-some : (o n : ℕ) → 0 < n → touched o n ≡ (o + n - 1) / 512 + 1 - o / 512
-touched-some o zero h = absurd (not-suc-le-zero h)
-touched-some o (suc n) h = omega arith
-
-touched-none : (o n : ℕ) → n ≡ 0 → touched o n ≡ 0
-touched-none o n z = ap (λ (k : ℕ). touched o k) z
-
--- one more sector
-pub touched-more : (o n m : ℕ) → Even o n → 0 < m → m ≤ 512 - (o + n) % 512 → touched o (n + m) ≡ touched o n + 1
-touched-more o n m (inl z) p h = omega (arith, touched-some o (n + m) (omega arith), touched-none o n z)
-touched-more o n m (inr a) p h = elim (cases-lt 0 n) [
-  | inl q ↦ omega (arith, touched-some o (n + m) (omega arith), touched-some o n q)
-  | inr q ↦ omega (arith, touched-some o (n + m) (omega arith), touched-none o n (omega arith))
-]
+use Rattle.storage.specs.Sectors.{touched}
+use Rattle.storage.proofs.Sectors.{Even, touched-some, touched-none, touched-more, touched-less}
+use Rattle.devices.specs.Sector.{upto}
 
 -- the sectors that whole fronts touch reach just as far
 pub upto-touched : (o n : ℕ) → Even o n → upto o (touched o n) ≡ n
@@ -44,18 +27,6 @@ upto-touched o n (inr a) = elim (cases-lt 0 n) [
   | inl q ↦ omega (arith, touched-some o n q)
   | inr q ↦ omega (arith, touched-none o n (omega arith))
 ]
-
--- what is still to be written touches one sector more
-pub touched-less : (o n m : ℕ) → Even o n → n < m → touched o n < touched o m
-touched-less o n m (inl z) h = omega (arith, touched-some o m (omega arith), touched-none o n z)
-touched-less o n m (inr a) h = elim (cases-lt 0 n) [
-  | inl q ↦ omega (arith, touched-some o m (omega arith), touched-some o n q)
-  | inr q ↦ omega (arith, touched-some o m (omega arith), touched-none o n (omega arith))
-]
-
--- a piece ends with its sector, or with the write
-pub even-more : (o n rest : ℕ) → Even o n → 0 < rest → (Even o (n + min (512 - (o + n) % 512) rest)) ⊎ (n + min (512 - (o + n) % 512) rest ≡ n + rest)
-even-more o n rest e p = elim (cases-lt rest (512 - (o + n) % 512)) [ inl x ↦ inr (omega arith) | inr x ↦ inl (inr (omega arith)) ]
 
 pub life-none : (l : Life) → (enough 0 l ≡ true) × (lessened 0 l ≡ l)
 life-none Endless = (refl, refl)
@@ -82,23 +53,6 @@ sector-more o n m l l₁ l₂ e p h en is one then =
     let t = touched-more o n m e p h in
     let x = life-more (touched o n) l en (rw is at one) in
     (rw t (x .0), then ∙ ap (λ (k : Life). lessened 1 k) is ∙ x .1 ∙ ap (λ (k : ℕ). lessened k l) (sym t))
-
-take-split : (n m : ℕ) (b : List ℕ) → take n b ++ take m (drop n b) ≡ take (n + m) b
-take-split n m b =
-    ap (λ (x : List ℕ). x ++ take m (drop n b)) (sym (take-take n (n + m) b (omega arith)))
-    ∙ ap (λ (x : List ℕ). take n (take (n + m) b) ++ x) (sym (drop-take n m b))
-    ∙ take-append-drop n (take (n + m) b)
-
--- the bytes after one piece more, as the code takes it out of the write
-pub piece-more : (o n m : ℕ) (b v : List ℕ) → n + m ≤ length b → o + length b ≤ length v →
-    laid (o + n) (take (n + m - n) (drop n b)) (laid o (take n b) v) ≡ laid o (take (n + m) b) v
-piece-more o n m b v le fits =
-    let size : n + m - n ≡ m = omega arith in
-    let front : length (take n b) ≡ n = length-take n b ∙ omega arith in
-    let more : length (take m (drop n b)) ≡ m = length-take m (drop n b) ∙ omega (arith, length-drop n b) in
-    ap (λ (k : ℕ). laid (o + n) (take k (drop n b)) (laid o (take n b) v)) size
-    ∙ laid-laid o n (take n b) (take m (drop n b)) v front (omega arith)
-    ∙ ap (λ (x : List ℕ). laid o x v) (take-split n m b)
 
 -- where no life is left for one sector more
 pub sector-out : (o n m : ℕ) (l l₁ : Life) → Even o n → n < m → enough (touched o n) l ≡ true → l₁ ≡ lessened (touched o n) l → enough 1 l₁ ≡ false →

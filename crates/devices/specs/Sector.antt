@@ -2,14 +2,13 @@
 -- step each. Where the life ends, the sectors programmed before are kept.
 --   sector           the rules of its kind
 --   sector-name      the name in its faults
---   touched o n      how many sectors n bytes at o touch
---   upto o l         how many bytes from o on lie within the first l of these sectors
+--   upto o l         how many bytes from o on lie within the first l sectors that it touches
 --   sector-holds d   what the device d holds: no byte of it is torn
 --   SectorMountable, OnSectorMount   as for an image
 use mathlib.Core.Path.{_≡_}
 use mathlib.Core.List.{List}
 use mathlib.Core.Bool.{Bool, false, cond}
-use Prim.Native.Nat.{ℕ, zero, suc, _+_, _-_, _*_, _/_, _%_}
+use Prim.Native.Nat.{ℕ, _+_, _-_, _*_, _/_, _%_}
 use denote.Ref.{now}
 use lib.Chars.{codes}
 use lib.Dec.{eqb}
@@ -18,14 +17,11 @@ use Rattle.std.specs.declared.result.Result.{Result}
 use Rattle.std.specs.declared.result.Result.the-variants.{Ok, Err}
 use Rattle.storage.specs.declared.refusal.BadMount.{BadMount}
 use Rattle.storage.specs.Sizes.{SizeRule, sector-width}
+use Rattle.storage.specs.Sectors.{touched}
 use Rattle.storage.specs.Meaning.{Fresh}
 use Rattle.devices.specs.declared.sector.SectorDevice.{SectorDevice}
 use Rattle.devices.specs.declared.sector.SectorParts.{SectorParts}
 use Rattle.devices.specs.Devices.{Held, Kind, means-of, fresh}
-
-abbrev pub touched : ℕ → ℕ → ℕ
-touched o zero = 0
-touched o (suc n) = (o + n) / sector-width + 1 - o / sector-width
 
 abbrev pub upto : ℕ → ℕ → ℕ
 upto o l = sector-width * (o / sector-width + l) - o

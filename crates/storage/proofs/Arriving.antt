@@ -1,6 +1,6 @@
 -- A write that partly arrives, and what may stand after it on a device that keeps its bytes twice.
 use mathlib.Core.Path.{_≡_, refl, sym, ap, subst, _∙_}
-use mathlib.Core.List.{List, map}
+use mathlib.Core.List.{List, map, _++_}
 use mathlib.Core.Bool.{Bool, true, false, not, _&&_, cond}
 use mathlib.Core.Logic.{_⊎_, inl, inr}
 use Prim.Native.Nat.{ℕ, _+_, _-_, _*_, _/_, _<_, _≤_}
@@ -8,7 +8,7 @@ use native.Mathlib.Nat.{div-div-eq-div-mul}
 use native.Mathlib.Omega.{arith}
 use lib.ListN.{length, getD, take, length-take}
 use Rattle.std.specs.Iters.{counting}
-use Rattle.std.proofs.shelf.Lists.{getD-past, getD-take, take-all}
+use Rattle.std.proofs.shelf.Lists.{getD-past, getD-take, getD-append-left, getD-append-right, length-append, take-all}
 use Rattle.std.proofs.shelf.Counted.{length-map-counting}
 use Rattle.std.proofs.shelf.Tests.{cases-bool, and-parts, not-true, both-ways, cond-true, cond-false}
 use Rattle.storage.specs.Cells.{laid, InCell, Partly}
@@ -40,6 +40,32 @@ pub partly-all : (w o : ℕ) (b s : List ℕ) → 0 < w → o + length b ≤ len
 partly-all w o b s pos fits =
     subst (λ (x : List ℕ). Partly w o b s (laid o x s)) (take-all (length b) b (omega arith))
     (partly-front w o (length b) b s pos (omega arith) fits (λ j lo hi. inl hi))
+
+-- a write that arrives in two pieces, the first of which cuts no cell that both cover whole
+pub partly-join : (w o : ℕ) (a c t u s : List ℕ) → 0 < w →
+    ((j : ℕ) → o ≤ w * j → w * j + w ≤ o + (length a + length c) → (w * j + w ≤ o + length a) ⊎ (o + length a ≤ w * j)) →
+    Partly w o a t u → Partly w (o + length a) c u s → Partly w o (a ++ c) t s
+partly-join w o a c t u s pos uncut p q =
+    let l = length-append a c in
+    record {
+      long = q .long ∙ p .long;
+      apart = λ k out. elim out [
+        | inl x ↦ q .apart k (inl (omega arith)) ∙ p .apart k (inl x)
+        | inr x ↦ q .apart k (inr (omega arith)) ∙ p .apart k (inr (omega arith))
+      ];
+      whole = λ j lo hi. elim (uncut j lo (omega arith)) [
+        | inl first ↦ elim (p .whole j lo first) [
+          | inl f ↦ inl (λ k kj. let z = cell-to w j k pos kj in q .apart k (inl (omega arith)) ∙ f k kj)
+          | inr f ↦ inr (λ k kj. let y = cell-from w j k pos kj in let z = cell-to w j k pos kj in
+              q .apart k (inl (omega arith)) ∙ f k kj ∙ sym (getD-append-left a c 0 (k - o) (omega arith)))
+        ]
+        | inr second ↦ elim (q .whole j second (omega arith)) [
+          | inl f ↦ inl (λ k kj. let y = cell-from w j k pos kj in f k kj ∙ p .apart k (inr (omega arith)))
+          | inr f ↦ inr (λ k kj. let y = cell-from w j k pos kj in
+              f k kj ∙ sym (getD-append-right a c (length a) (k - o) 0 refl (omega arith) ∙ ap (λ (x : ℕ). getD c x 0) (omega arith)))
+        ]
+      ];
+    }
 
 -- once the durable and the visible bytes agree and none is torn, they alone may stand
 pub settled : (w : ℕ) (d v : List ℕ) (t : List Bool) (s : List ℕ) → d ≡ v → ((k : ℕ) → getD t k false ≡ false) → Standing w d v t s → s ≡ v

@@ -2,3 +2,4 @@ pub mod Lists
 pub mod Marks
 pub mod Arriving
 pub mod Storing
+pub mod Sectors

@@ -1,5 +1,6 @@
 pub mod Sizes
 pub mod Cells
+pub mod Sectors
 pub mod Standing
 pub mod Lives
 pub mod Refusals

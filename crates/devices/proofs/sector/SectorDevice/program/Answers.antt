@@ -10,9 +10,10 @@ use lib.Seq.{take-all}
 use Rattle.storage.specs.Cells.{laid}
 use Rattle.storage.specs.Lives.{lessened, enough}
 use Rattle.storage.proofs.Lists.{length-laid}
-use Rattle.devices.specs.Sector.{touched}
+use Rattle.storage.specs.Sectors.{touched}
 use Rattle.devices.proofs.Doing.{laid-none}
-use Rattle.devices.proofs.Sectors.{Even, life-none, even-more, sector-more, piece-more, sector-out}
+use Rattle.storage.proofs.Sectors.{Even, even-more, piece-more}
+use Rattle.devices.proofs.Sectors.{life-none, sector-more, sector-out}
 use Rattle.devices.proofs.sector.SectorDevice.program.Needs as need
 
 pub loop-done-holds : need.loop-done-holds

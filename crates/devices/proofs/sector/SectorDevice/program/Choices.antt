@@ -5,8 +5,8 @@ use Prim.Native.Nat.{_-_, _≤_}
 use lib.ListN.{length, take}
 use Rattle.storage.specs.Cells.{laid}
 use Rattle.storage.specs.Lives.{lessened, enough}
-use Rattle.devices.specs.Sector.{touched}
-use Rattle.devices.proofs.Sectors.{Even}
+use Rattle.storage.specs.Sectors.{touched}
+use Rattle.storage.proofs.Sectors.{Even}
 use Rattle.devices.proofs.sector.SectorDevice.program.Given as given
 
 -- the first `done` bytes are in, a step was taken for each sector that they touch, and they

@@ -6,7 +6,8 @@ use lib.ListN.{length}
 use Rattle.std.specs.declared.result.Result.the-variants.{Ok, Err}
 use Rattle.storage.specs.declared.refusal.Refusal.the-variants.{Gone}
 use Rattle.devices.specs.Devices.{serves, broken}
-use Rattle.devices.specs.Sector.{sector, sector-name, sector-holds, touched}
+use Rattle.storage.specs.Sectors.{touched}
+use Rattle.devices.specs.Sector.{sector, sector-name, sector-holds}
 use Rattle.devices.proofs.Calls.{on-write}
 use Rattle.devices.proofs.Doing.{same-held, broken-is, did-write, lost-write}
 use Rattle.devices.proofs.Keeping.{sector-rules}

@@ -1,0 +1,7 @@
+pub mod Lines
+pub mod Cached
+pub mod Steps
+pub mod Chains
+pub mod Syncs
+pub mod Did
+pub mod Made
