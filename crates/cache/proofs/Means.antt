@@ -4,11 +4,10 @@ use mathlib.Core.List.{List, []}
 use mathlib.Core.Bool.{Bool, true, false}
 use mathlib.Core.Logic.{_⊎_, inl, inr}
 use Prim.Native.Nat.{ℕ, _+_, _-_, _*_, _/_, _%_, _<_, _≤_}
-use native.Mathlib.Nat.{add-zero, mod-lt}
+use native.Mathlib.Nat.{mod-lt}
 use native.Mathlib.Omega.{arith}
 use lib.ListN.{length, getD, set, length-set}
 use lib.Seq.{getD-set-other, getD-set-same}
-use Rattle.std.proofs.shelf.Lists.{take-append-drop}
 use Rattle.std.proofs.shelf.Tests.{cases-lt, cases-eq, cases-bool, both-ways, eq-eqb, cond-true}
 use Rattle.std.specs.declared.result.Result.{Result}
 use Rattle.std.specs.declared.result.Result.the-variants.{Ok, Err}
@@ -325,6 +324,3 @@ still-write o b m m₁ m₂ a w = record {
   visible = w .visible ∙ ap (λ (x : List ℕ). laid o b x) (a .visible);
   stands = λ s h. let x = w .stands s h in (x .0, a .stands (x .0) (x .1), x .2);
 }
-
-pub laid-nothing : (o : ℕ) (v : List ℕ) → laid o [] v ≡ v
-laid-nothing o v = rw add-zero (take-append-drop o v)

@@ -17,14 +17,14 @@ use Rattle.storage.specs.Refusals.{Told}
 use Rattle.storage.specs.Meaning.{Meaning, Lawful, Within, Same, Only}
 use Rattle.storage.specs.Calls.{Arrives, Served, Ended, ReadDone, ReadEnded, WriteDone, WriteEnded, SyncDone, SyncEnded, OnRead, OnWrite, OnSync}
 use Rattle.storage.proofs.Arriving.{partly-none, settled}
-use Rattle.storage.proofs.Lists.{same}
+use Rattle.storage.proofs.Lists.{laid-none, same}
 use Rattle.cache.specs.declared.line.Line.{Line}
 use Rattle.cache.specs.Lines.{seen, Kept}
 use Rattle.cache.specs.Cached.{Over, InOrder, cache-means}
 use Rattle.cache.specs.Chains.{OnGot}
 use Rattle.cache.specs.Steps.{Still, Lost, OnDown, lowered}
 use Rattle.cache.specs.Syncs.{AllClean, OnSettle}
-use Rattle.cache.proofs.Means.{over-alive, from-alive, over-dead, from-dead, over-below, laid-nothing, still-lost}
+use Rattle.cache.proofs.Means.{over-alive, from-alive, over-dead, from-dead, over-below, still-lost}
 use Rattle.cache.proofs.Seeing.{seen-below}
 
 -- a write of no bytes leaves what might have stood
@@ -97,7 +97,7 @@ module _ (dir : List Line) (t : List ℕ) (n : ℕ) (gone : Bool) (m m′ : Mean
   }
 
   pub write-order : (o : ℕ) (b : List ℕ) → length b ≡ 0 → WriteDone o b m m′ → m′ .visible ≡ m .visible
-  write-order o b z d = d .visible ∙ ap (λ (x : List ℕ). laid o x (m .visible)) (nil-from-length b z) ∙ laid-nothing o (m .visible)
+  write-order o b z d = d .visible ∙ ap (λ (x : List ℕ). laid o x (m .visible)) (nil-from-length b z) ∙ laid-none o (m .visible)
 
   pub write-passed : (o : ℕ) (b : List ℕ) → length b ≡ 0 → WriteDone o b m m′ → WriteDone o b (cache-means dir t n gone m) (cache-means dir t n gone m′)
   write-passed o b z d =
@@ -105,7 +105,7 @@ module _ (dir : List Line) (t : List ℕ) (n : ℕ) (gone : Bool) (m m′ : Mean
       record {
         fits = d .fits;
         served = record { lived = d .served .lived; lives = d .served .lives; size = d .served .size };
-        visible = ap (λ (w : List ℕ). seen dir t n w) v ∙ sym (ap (λ (x : List ℕ). laid o x (seen dir t n (m .visible))) (nil-from-length b z) ∙ laid-nothing o (seen dir t n (m .visible)));
+        visible = ap (λ (w : List ℕ). seen dir t n w) v ∙ sym (ap (λ (x : List ℕ). laid o x (seen dir t n (m .visible))) (nil-from-length b z) ∙ laid-none o (seen dir t n (m .visible)));
         stands = λ s h. (s, pass-stands (d .served) v (arrives-nothing o b m m′ z (d .stands)) s h, partly-none 16 o b s);
       }
 

@@ -21,11 +21,12 @@ use storage::storage::Storage;
 
 #[derive(Drop)]
 pub struct Cache<S> {
-    pub below: S,
-    pub table: Table,
-    pub dir: [Line; 16],
-    pub lines: usize,
-    pub gone: bool,
+    pub(crate) below: S,
+    pub(crate) table: Table,
+    pub(crate) dir: [Line; 16],
+    pub(crate) lines: usize,
+    // Whether the storage below has answered GONE.
+    pub(crate) gone: bool,
 }
 
 impl<S: Storage> Cache<S> {
@@ -114,8 +115,8 @@ impl<S: Storage> Cache<S> {
         ensures did { λ r. ⌜ Flushes (S·Storage .did) (now (self .entry)) r (now (self .exit)) ⌝ }
     {
         while let Some(h) = self.lowest() {
-            let i = h % self.lines;
-            if let Err(fault) = self.evict(i) {
+            let home = h % self.lines;
+            if let Err(fault) = self.evict(home) {
                 return Err(fault);
             }
         }
@@ -270,14 +271,15 @@ impl<S: Storage> Cache<S> {
     }
 
     // A read within the size.
-    pub fn read_inside(&mut self, offset: usize, buf: &mut [u8]) -> Result<(), S::Gone>
+    pub(crate) fn read_inside(&mut self, offset: usize, buf: &mut [u8]) -> Result<(), S::Gone>
         requires in_order { ⌜ means-of (S·Storage .means) (now self) .in-order ⌝ }
         requires fits { ⌜ offset + length (now buf) ≤ S·Storage .means (now self .below) .size ⌝ }
         ensures in_order { λ _. ⌜ means-of (S·Storage .means) (now (self .exit)) .in-order ⌝ }
         ensures does { λ r. ⌜ OnGot offset (now (buf .entry)) (now (buf .exit)) (means-of (S·Storage .means) (now (self .entry))) (means-of (S·Storage .means) (now (self .exit))) r ⌝ }
         ensures did { λ r. ⌜ Inner (S·Storage .did) (S·Storage .means) (Reading offset (length (now (buf .entry)))) (ReadStep (S·Storage .did) (S·Storage .means)) offset (length (now (buf .entry))) (now (self .entry)) r (now (self .exit)) ⌝ }
     {
-        if self.gone {
+        let told = self.gone;
+        if told {
             buf.fill(0);
             return self.pass_sync();
         }
@@ -288,7 +290,7 @@ impl<S: Storage> Cache<S> {
     }
 
     // A write within the size.
-    pub fn write_inside(&mut self, offset: usize, bytes: &[u8]) -> Result<(), S::Gone>
+    pub(crate) fn write_inside(&mut self, offset: usize, bytes: &[u8]) -> Result<(), S::Gone>
         requires in_order { ⌜ means-of (S·Storage .means) (now self) .in-order ⌝ }
         requires fits { ⌜ offset + length (now bytes) ≤ S·Storage .means (now self .below) .size ⌝ }
         ensures in_order { λ _. ⌜ means-of (S·Storage .means) (now (self .exit)) .in-order ⌝ }
@@ -305,7 +307,7 @@ impl<S: Storage> Cache<S> {
     }
 
     // All that waits goes down, and then a sync.
-    pub fn settle(&mut self) -> Result<(), S::Gone>
+    pub(crate) fn settle(&mut self) -> Result<(), S::Gone>
         requires { ⌜ means-of (S·Storage .means) (now self) .in-order ⌝ }
         ensures in_order { λ _. ⌜ means-of (S·Storage .means) (now (self .exit)) .in-order ⌝ }
         ensures does { λ r. ⌜ OnSettle (means-of (S·Storage .means) (now (self .entry))) (means-of (S·Storage .means) (now (self .exit))) r ⌝ }

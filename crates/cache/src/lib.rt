@@ -5,7 +5,7 @@
 // line or a sync writes them down.
 mod answer;
 pub mod cache;
-pub mod line;
+mod line;
 pub mod making;
 pub mod storing;
-pub mod table;
+mod table;

@@ -37,7 +37,7 @@ pub impl<S: Cuttable> Cuttable for Cache<S> as CacheCuttable {
 
     ghost sets = { λ c n d. S·Cuttable .sets (c .below) n (d .below) × (d ≡ record { below = d .below; table = c .table; dir = c .dir; lines = c .lines; gone = c .gone }) };
 
-    ghost mounted = { λ c. S·Cuttable .mounted (c .below) × blank (c .dir) × (c .gone ≡ false) };
+    ghost cuts = { λ c cs d. S·Cuttable .cuts (c .below) cs (d .below) × blank (d .dir) × (d ≡ record { below = d .below; table = c .table; dir = d .dir; lines = c .lines; gone = false }) };
 
     fn set_life(&mut self, steps: u64) {
         self.below.set_life(steps);

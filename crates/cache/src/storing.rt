@@ -8,6 +8,7 @@ use storage::refusal::LayerFault;
 use storage::refusal::LayerFaultChain;
 use storage::refusal::Link;
 use storage::refusal::LinkChain;
+use storage::refusal::Name;
 use storage::refusal::Refusal;
 use storage::sizes::passes;
 use storage::storage::Storage;
@@ -16,7 +17,7 @@ fn link(offset: usize) -> Link
     ensures { λ r. ⌜ step r ≡ record { name = cache-name; offset = offset } ⌝ }
 {
     Link {
-        name: "cache",
+        name: Name::Cache,
         offset,
     }
 }

@@ -3,12 +3,9 @@ use mathlib.Core.Path.{_≡_, refl, sym, ap, _∙_}
 use mathlib.Core.List.{List, []}
 use mathlib.Core.Bool.{Bool, true, false, not, _&&_, cond}
 use Prim.Native.Nat.{ℕ, _+_, _<_, _≤_}
-use native.Mathlib.Nat.{add-zero}
 use native.Mathlib.Omega.{arith}
 use lib.Dec.{leb}
 use lib.ListN.{length, take}
-use lib.ListN.{drop}
-use Rattle.std.proofs.shelf.Lists.{take-append-drop}
 use Rattle.std.proofs.shelf.Tests.{le-leb, leb-false, both-ways, cond-false}
 use Rattle.std.specs.declared.result.Result.the-variants.{Ok, Err}
 use Rattle.storage.specs.declared.life.Life.{Life}
@@ -24,9 +21,6 @@ use Rattle.devices.specs.Devices.{Held, Kind, served, lost, ends, serves, brok
 pub same-held : {d d′ v v′ : List ℕ} {t t′ : List Bool} {l l′ : Life} {g g′ : Bool} → d ≡ d′ → v ≡ v′ → t ≡ t′ → l ≡ l′ → g ≡ g′ →
     _≡_ {A = Held} (record { durable = d; visible = v; torn = t; life = l; gone = g }) (record { durable = d′; visible = v′; torn = t′; life = l′; gone = g′ })
 same-held d v t l g = cc
-
-pub laid-none : (o : ℕ) (v : List ℕ) → laid o [] v ≡ v
-laid-none o v = rw add-zero (take-append-drop o v)
 
 -- a life with no step left
 pub no-life : (l : Life) → enough 1 l ≡ false → l ≡ Left 0

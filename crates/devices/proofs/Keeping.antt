@@ -15,7 +15,8 @@ use Rattle.devices.specs.Rules.{Rules}
 use Rattle.devices.specs.Image.{image, image-pick}
 use Rattle.storage.specs.Sectors.{touched}
 use Rattle.devices.specs.Sector.{sector, sector-pick, upto}
-use Rattle.devices.proofs.Doing.{same-held, laid-none, no-life}
+use Rattle.storage.proofs.Lists.{laid-none}
+use Rattle.devices.proofs.Doing.{same-held, no-life}
 
 image-pick-one : (c : ℕ) → ((d v : ℕ) (t : Bool) → image-pick c d v t ≡ v) ⊎ ((d v : ℕ) → image-pick c d v false ≡ d)
 image-pick-one c =

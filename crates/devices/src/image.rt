@@ -18,6 +18,7 @@ use storage::life::Life;
 use storage::refusal::BadMount;
 use storage::refusal::Link;
 use storage::refusal::LinkChain;
+use storage::refusal::Name;
 use storage::refusal::Refusal;
 use storage::sizes::CELL;
 use storage::sizes::keeps_size_rule;
@@ -76,7 +77,7 @@ fn fault(offset: usize) -> Link
     ensures { λ r. ⌜ step r ≡ record { name = image-name; offset = offset } ⌝ }
 {
     Link {
-        name: "image",
+        name: Name::Image,
         offset,
     }
 }
@@ -176,7 +177,7 @@ pub impl Cuttable for Image<'_> as ImageCuttable {
 
     ghost sets = { λ i n j. holds j ≡ with-life n (holds i) };
 
-    ghost mounted = { λ i. holds i ≡ fresh (now (i .copies .durable)) };
+    ghost cuts = { λ i cs j. holds j ≡ fresh (kept image-kind (holds i) cs) };
 
     fn set_life(&mut self, steps: u64) {
         self.power.life = Life::Left(steps);

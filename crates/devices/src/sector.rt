@@ -20,6 +20,7 @@ use storage::life::Life;
 use storage::refusal::BadMount;
 use storage::refusal::Link;
 use storage::refusal::LinkChain;
+use storage::refusal::Name;
 use storage::refusal::Refusal;
 use storage::sizes::SECTOR;
 use storage::sizes::keeps_size_rule;
@@ -66,7 +67,7 @@ fn fault(offset: usize) -> Link
     ensures { λ r. ⌜ step-of r ≡ record { name = sector-name; offset = offset } ⌝ }
 {
     Link {
-        name: "sector",
+        name: Name::Sector,
         offset,
     }
 }
@@ -184,7 +185,7 @@ pub impl Cuttable for SectorDevice<'_> as SectorCuttable {
 
     ghost sets = { λ d n e. sector-holds e ≡ with-life n (sector-holds d) };
 
-    ghost mounted = { λ d. sector-holds d ≡ fresh (now (d .copies .durable)) };
+    ghost cuts = { λ d cs e. sector-holds e ≡ fresh (kept sector-kind (sector-holds d) cs) };
 
     fn set_life(&mut self, steps: u64) {
         self.power.life = Life::Left(steps);

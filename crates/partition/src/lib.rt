@@ -15,6 +15,7 @@ use storage::refusal::LayerFault;
 use storage::refusal::LayerFaultChain;
 use storage::refusal::Link;
 use storage::refusal::LinkChain;
+use storage::refusal::Name;
 use storage::refusal::Refusal;
 use storage::sizes::SECTOR;
 use storage::sizes::keeps_size_rule;
@@ -46,7 +47,7 @@ fn link(offset: usize) -> Link
     ensures { λ r. ⌜ step r ≡ record { name = partition-name; offset = offset } ⌝ }
 {
     Link {
-        name: "partition",
+        name: Name::Partition,
         offset,
     }
 }
@@ -121,7 +122,7 @@ pub impl<S: Cuttable> Cuttable for Partition<S> as PartitionCuttable {
 
     ghost sets = { Sets (S·Cuttable .sets) };
 
-    ghost mounted = { λ p. S·Cuttable .mounted (p .below) };
+    ghost cuts = { λ p cs q. (q .base ≡ p .base) × (q .size ≡ p .size) × S·Cuttable .cuts (p .below) cs (q .below) };
 
     fn set_life(&mut self, steps: u64) {
         self.below.set_life(steps);

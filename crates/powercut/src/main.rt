@@ -26,7 +26,7 @@ fn print_chain<F: Chain>(rt: &impl Print, fault: &F) -> io::Result<()> {
         let Some(link) = fault.link(i) else {
             break;
         };
-        let name = link.name;
+        let name = link.name.text();
         let offset = link.offset;
         print!(rt, " ({name} {offset})")?;
     }

@@ -1,13 +1,13 @@
 -- Bytes that are laid over others, and lists by their elements.
 use mathlib.Core.Path.{_≡_, sym, ap, _∙_}
-use mathlib.Core.List.{List, map, _++_}
+use mathlib.Core.List.{List, map, [], _++_}
 use mathlib.Core.Logic.{_⊎_, inl, inr}
 use Prim.Native.Nat.{ℕ, _+_, _-_, _*_, _/_, _<_, _≤_}
-use native.Mathlib.Nat.{mul-div-le, lt-mul-div-succ, mul-add}
+use native.Mathlib.Nat.{add-zero, mul-div-le, lt-mul-div-succ, mul-add}
 use native.Mathlib.Omega.{arith}
 use borrow.Author.Needs.{needs}
 use lib.ListN.{length, getD}
-use Rattle.std.proofs.shelf.Lists.{same-lists, getD-default, getD-past, getD-append-left, getD-append-right, length-append, places}
+use Rattle.std.proofs.shelf.Lists.{same-lists, getD-default, getD-past, getD-append-left, getD-append-right, length-append, take-append-drop, places}
 use Rattle.std.proofs.shelf.Counted.{getD-map-counting, length-map-counting}
 use Rattle.std.proofs.shelf.Tests.{cases-lt}
 use Rattle.std.specs.Iters.{counting}
@@ -22,6 +22,9 @@ laid-within o b v k fits l h = search (needs, places)
 
 pub length-laid : (o : ℕ) (b v : List ℕ) → o + length b ≤ length v → length (laid o b v) ≡ length v
 length-laid o b v fits = search (needs, places)
+
+pub laid-none : (o : ℕ) (v : List ℕ) → laid o [] v ≡ v
+laid-none o v = rw add-zero (take-append-drop o v)
 
 -- lists of one length that agree at each place are equal
 pub same : {X : Type 0} (d : X) (xs ys : List X) → length xs ≡ length ys → ((k : ℕ) → k < length xs → getD xs k d ≡ getD ys k d) → xs ≡ ys

@@ -1,5 +1,6 @@
 -- What a refusal says: its number, and the storages that it came through.
 --   Step           a storage's name, and the offset that it was called with
+--   spelled n      the letters of the name n
 --   step l         what the link l says
 --   nth xs i       the element i of xs, if there is one
 --   Answer O G     what a storage answers to a call
@@ -9,11 +10,13 @@
 use mathlib.Core.Path.{_≡_}
 use mathlib.Core.List.{List, _∷_, []}
 use Prim.Native.Nat.{ℕ, zero, suc}
-use denote.Ref.{now}
+use lib.Chars.{codes}
 use Rattle.std.specs.declared.option.Option.{Option}
 use Rattle.std.specs.declared.option.Option.the-variants.{Some, None}
 use Rattle.std.specs.declared.result.Result.{Result}
 use Rattle.storage.specs.declared.refusal.Link.{Link}
+use Rattle.storage.specs.declared.refusal.Name.{Name}
+use Rattle.storage.specs.declared.refusal.Name.the-variants.{Image, Sector, Partition, Cache, Other}
 use Rattle.storage.specs.declared.refusal.Refusal.{Refusal}
 use Rattle.storage.specs.declared.refusal.Refusal.the-variants.{Outside, Gone}
 
@@ -21,8 +24,15 @@ pub record Step : Type 0 where
   pub name : List ℕ
   pub offset : ℕ
 
+abbrev pub spelled : Name → List ℕ
+spelled Image = codes "image"
+spelled Sector = codes "sector"
+spelled Partition = codes "partition"
+spelled Cache = codes "cache"
+spelled Other = codes "other"
+
 abbrev pub step : Link → Step
-step l = record { name = now (l .name); offset = l .offset }
+step l = record { name = spelled (l .name); offset = l .offset }
 
 abbrev pub steps : Option Link → Option Step
 steps None = None

@@ -19,8 +19,8 @@ pub trait Cuttable: Storage {
     // What its kind promises of setting the life, beyond the meaning.
     ghost sets: { Self → ℕ → Self → Type 0 };
 
-    // What its kind promises of a mount, beyond the meaning.
-    ghost mounted: { Self → Type 0 };
+    // What its kind promises of a cut with these choice bytes and the mount after it, beyond the meaning.
+    ghost cuts: { Self → List ℕ → Self → Type 0 };
 
     // So many steps are served from now on. One that is gone stays gone.
     fn set_life(&mut self, steps: u64)
@@ -35,5 +35,5 @@ pub trait Cuttable: Storage {
         requires { ⌜ Self·Storage .means (now self) .in-order ⌝ }
         ensures in_order { λ _. ⌜ Self·Storage .means (now (self .exit)) .in-order ⌝ }
         ensures does { λ r. ⌜ OnCut (Self·Storage .means) life keeps (now (choices .entry)) (now (self .entry)) (now (self .exit)) r ⌝ }
-        ensures mounted { λ r. ⌜ made r (λ _. mounted (now (self .exit))) ⌝ };
+        ensures cuts { λ r. ⌜ made r (λ _. cuts (now (self .entry)) (now (choices .entry)) (now (self .exit))) ⌝ };
 }

@@ -1,12 +1,36 @@
 // What a storage says where it declines a call.
 ghost use mathlib.Core.Path.{_≡_};
 ghost use mathlib.Core.List.{List, _∷_, []};
-ghost use Rattle.storage.specs.Refusals.{Step, step, nth, steps, number, bad-mount};
+ghost use Rattle.storage.specs.Refusals.{Step, spelled, step, nth, steps, number, bad-mount};
+
+// What the kinds of storage are called; a kind of another crate is `Other`.
+#[derive(Clone, Copy, PartialEq, Eq, Debug)]
+pub enum Name {
+    Image,
+    Sector,
+    Partition,
+    Cache,
+    Other,
+}
+
+impl Name {
+    pub fn text(self) -> &'static str
+        ensures { λ r. ⌜ now r ≡ spelled self ⌝ }
+    {
+        match self {
+            Name::Image => "image",
+            Name::Sector => "sector",
+            Name::Partition => "partition",
+            Name::Cache => "cache",
+            Name::Other => "other",
+        }
+    }
+}
 
 // One storage on the way down: its name, and the offset that it was called with.
 #[derive(Clone, Copy, PartialEq, Eq, Debug)]
 pub struct Link {
-    pub name: &'static str,
+    pub name: Name,
     pub offset: usize,
 }
 

@@ -19,7 +19,7 @@ use Rattle.cache.specs.declared.cache.Cache.{Cache}
 use Rattle.cache.specs.Cached.{means-of}
 use Rattle.cache.specs.Lines.{length-seen}
 use Rattle.cache.specs.Chains.{Walk, WriteStep, Took, Writes, begins, piece}
-use Rattle.cache.proofs.Means.{laid-nothing}
+use Rattle.storage.proofs.Lists.{laid-none}
 use Rattle.cache.proofs.Ranging.{evenly, sector-next, begins-next, piece-next, walk-more, arrives-more, arrives-part}
 use Rattle.cache.proofs.cache.Cache.write_range.Needs as need
 
@@ -32,7 +32,7 @@ loop-done-holds g c =
       search needs,
       refl,
       (λ l. absurd (omega arith)),
-      sym (laid-nothing (c .args .offset) (f s .visible)),
+      sym (laid-none (c .args .offset) (f s .visible)),
       (λ x h. (x, h, partly-none 16 (c .args .offset) _ x)),
       refl,
       inl (inl refl),

@@ -11,4 +11,4 @@ returns c =
     let s = c .remount .last .self in
     let e = c .remount .ensures in
     let p = cut-from image image-rules h (c .pre) (c .args .choices .now) (s .copies .durable .now) (s .copies .visible .now) (s .torn .now) (e .durable) (e .visible) (e .torn) in
-    record { in-order = p .1; does = (search needs, p .2, refl); mounted = p .0 }
+    record { in-order = p .1; does = (search needs, p .2, refl); cuts = p .0 }

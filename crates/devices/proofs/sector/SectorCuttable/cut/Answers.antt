@@ -17,4 +17,4 @@ returns c =
     let e = c .remount .ensures in
     let long : length (s .durable .now) ≡ length (h .torn) = ap length (e .durable) ∙ length-kept sector sector-rules h (c .pre) cs ∙ search (needs, length-replicate) in
     let p = cut-from sector sector-rules h (c .pre) cs (s .durable .now) (s .visible .now) (replicate (length (s .durable .now)) false) (e .durable) (e .visible) (ap (λ (n : ℕ). replicate n false) long) in
-    record { in-order = p .1; does = (search needs, p .2, refl); mounted = p .0 }
+    record { in-order = p .1; does = (search needs, p .2, refl); cuts = p .0 }

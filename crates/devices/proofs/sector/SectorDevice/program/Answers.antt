@@ -11,7 +11,7 @@ use Rattle.storage.specs.Cells.{laid}
 use Rattle.storage.specs.Lives.{lessened, enough}
 use Rattle.storage.proofs.Lists.{length-laid}
 use Rattle.storage.specs.Sectors.{touched}
-use Rattle.devices.proofs.Doing.{laid-none}
+use Rattle.storage.proofs.Lists.{laid-none}
 use Rattle.storage.proofs.Sectors.{Even, even-more, piece-more}
 use Rattle.devices.proofs.Sectors.{life-none, sector-more, sector-out}
 use Rattle.devices.proofs.sector.SectorDevice.program.Needs as need
