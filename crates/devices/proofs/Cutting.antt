@@ -80,7 +80,8 @@ module _ (K : Kind) (rules : Rules K) (h : Held) (i : InOrder h) (cs : List ℕ)
   cut-from d v t dk vk tk =
       let long : length (h .torn) ≡ length (kept K h cs) = i .torn-long ∙ sym length-kept in
       let h′ : Held = record { durable = d; visible = v; torn = t; life = Endless; gone = false } in
-      let q : h′ ≡ fresh (kept K h cs) = same-held dk vk (tk ∙ ap (λ (n : ℕ). replicate n false) long) refl refl in (q,
+      let q : h′ ≡ fresh (kept K h cs) = same-held dk vk (tk ∙ ap (λ (n : ℕ). replicate n false) long) refl refl in (
+        q,
         subst (λ (x : Held). InOrder x) (sym q) (cut-done .fresh .in-order),
         subst (λ (x : Held). CutDone (kept K h cs) (means-of K h) (means-of K x)) (sym q) cut-done,
       )

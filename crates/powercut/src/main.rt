@@ -1,5 +1,9 @@
 // A power cut, from the first write to what the card shows after it: on an image, which is
-// cut by cells, and on a sector device, which is cut by sectors.
+// cut by cells, on a sector device, which is cut by sectors, and on a cache over a partition of
+// an image, where writes wait in the cache.
+use cache::cache::Cache;
+use cache::making::CacheCuttable;
+use cache::storing::CacheStorage;
 use devices::image::Image;
 use devices::image::ImageCuttable;
 use devices::image::ImageParts;
@@ -8,11 +12,15 @@ use devices::sector::SectorCuttable;
 use devices::sector::SectorDevice;
 use devices::sector::SectorParts;
 use devices::sector::SectorStorage;
+use partition::Partition;
+use partition::PartitionCuttable;
+use partition::PartitionStorage;
 use std::error::AnyError;
 use std::io;
 use storage::client::store;
 use storage::cuttable::Cuttable;
 use storage::refusal::Chain;
+use storage::refusal::LayerFaultChain;
 use storage::refusal::LinkChain;
 use storage::refusal::Refusal;
 use storage::sizes::CELL;
@@ -149,9 +157,35 @@ fn on_sector_device(rt: &LibcRuntime) -> Result<(), AnyError> {
     Ok(())
 }
 
+fn on_stack(rt: &LibcRuntime) -> Result<(), AnyError> {
+    let heap = rt.alloc();
+    let mut durable = vec![in heap; 0u8; 4_608]?;
+    let mut visible = vec![in heap; 0u8; 4_608]?;
+    let mut torn = vec![in heap; false; 4_608]?;
+    let parts = ImageParts {
+        durable: &mut durable,
+        visible: &mut visible,
+        torn: &mut torn,
+    };
+    let Ok(image) = Image::mount(parts) else {
+        return Err("the image does not mount".into());
+    };
+    let Ok(part) = Partition::over(image, 512, SIZE) else {
+        return Err("the partition does not fit".into());
+    };
+    let Ok(mut card) = Cache::over(part, 2) else {
+        return Err("the cache is not made".into());
+    };
+    println!(rt, "a cache of 2 lines over a partition at 512 of an image")?;
+    story(rt, &mut card, CELL, &[b'a'; 64], &[b'b'; 48])?;
+    Ok(())
+}
+
 fn main(rt: LibcRuntime) -> Result<(), AnyError> {
     let told = on_image(&rt);
     rt.report(told)?;
     let told = on_sector_device(&rt);
+    rt.report(told)?;
+    let told = on_stack(&rt);
     rt.report(told)
 }
