@@ -1,7 +1,7 @@
 // The cache: its lines over a storage of any kind.
 ghost use mathlib.Core.Path.{_≡_};
 ghost use mathlib.Core.Bool.{true, false};
-ghost use Prim.Native.Nat.{ℕ, min, _+_, _-_, _*_, _/_, _%_, _<_, _≤_};
+ghost use Prim.Native.Nat.{ℕ, _+_, _*_, _/_, _%_, _<_, _≤_};
 ghost use lib.ListN.{length};
 ghost use Rattle.cache.specs.Cached.{means-of};
 ghost use Rattle.cache.specs.Chains.{Took, Writes, OnPut, OnGot, Ranges, ReadStep, WriteStep};
@@ -17,6 +17,7 @@ use crate::answer::write_below;
 use crate::line::Line;
 use crate::table::Table;
 use storage::sizes::SECTOR;
+use storage::sizes::in_sector;
 use storage::storage::Storage;
 
 #[derive(Drop)]
@@ -321,13 +322,6 @@ impl<S: Storage> Cache<S> {
         }
         self.pass_sync()
     }
-}
-
-// How many of the bytes that are left lie in the sector of an offset.
-fn in_sector(at: usize, rest: usize) -> usize
-    ensures { λ r. ⌜ r ≡ min (512 - at % 512) rest ⌝ }
-{
-    (SECTOR - at % SECTOR).min(rest)
 }
 
 fn lower_of(best: Option<usize>, line: Line) -> Option<usize>

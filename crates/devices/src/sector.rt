@@ -3,7 +3,7 @@
 ghost use mathlib.Core.Path.{_≡_};
 ghost use mathlib.Core.Bool.{true, false, not};
 ghost use mathlib.Core.List.{List};
-ghost use Prim.Native.Nat.{ℕ, min, _+_, _-_, _%_, _<_, _≤_};
+ghost use Prim.Native.Nat.{ℕ, _+_, _<_, _≤_};
 ghost use denote.Ref.{now};
 ghost use lib.ListN.{length, take};
 ghost use Rattle.devices.specs.Devices.{Did, InOrder, means-of, lawful-of, left, with-life, kept, fresh};
@@ -23,6 +23,7 @@ use storage::refusal::LinkChain;
 use storage::refusal::Name;
 use storage::refusal::Refusal;
 use storage::sizes::SECTOR;
+use storage::sizes::in_sector;
 use storage::sizes::keeps_size_rule;
 use storage::sizes::passes;
 use storage::storage::Storage;
@@ -72,13 +73,6 @@ fn fault(offset: usize) -> Link
     }
 }
 
-// How many of the bytes that are left lie in the sector of an offset.
-fn piece(at: usize, rest: usize) -> usize
-    ensures { λ r. ⌜ r ≡ min (512 - at % 512) rest ⌝ }
-{
-    (SECTOR - at % SECTOR).min(rest)
-}
-
 // The byte that a cut leaves.
 fn pick(choice: u8, durable: u8, visible: u8) -> u8
     ensures { λ r. ⌜ r ≡ sector-pick choice durable visible false ⌝ }
@@ -100,7 +94,7 @@ impl SectorDevice<'_> {
     {
         let mut done = 0;
         while done < bytes.len() {
-            let step = piece(offset + done, bytes.len() - done);
+            let step = in_sector(offset + done, bytes.len() - done);
             if !self.power.serve() {
                 return false;
             }

@@ -1,10 +1,10 @@
 // The sizes that a storage is made of.
 ghost use mathlib.Core.Path.{_≡_};
 ghost use mathlib.Core.Bool.{true, false};
-ghost use Prim.Native.Nat.{_+_};
+ghost use Prim.Native.Nat.{min, _+_, _-_, _%_};
 ghost use lib.Dec.{ltb};
 ghost use Rattle.std.specs.Orderings.{Decides};
-ghost use Rattle.storage.specs.Sizes.{SizeRule};
+ghost use Rattle.storage.specs.Sizes.{SizeRule, sector-width};
 
 // The bytes that arrive together or not at all, where a write covers them all.
 pub const CELL: usize = 16;
@@ -26,4 +26,11 @@ pub fn passes(size: usize, offset: usize, count: usize) -> bool
     ensures { λ r. ⌜ r ≡ ltb size (offset + count) ⌝ }
 {
     offset > size || count > size - offset
+}
+
+// How many of the bytes that are left lie in the sector of an offset.
+pub fn in_sector(at: usize, rest: usize) -> usize
+    ensures { λ r. ⌜ r ≡ min (sector-width - at % sector-width) rest ⌝ }
+{
+    (SECTOR - at % SECTOR).min(rest)
 }

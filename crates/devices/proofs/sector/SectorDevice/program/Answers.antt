@@ -49,12 +49,12 @@ put-requires c κs =
     let o = c .args .offset in
     let b = c .args .bytes .now in
     let done = c .loop-done .done in
-    let m = c .piece-step .result in
+    let m = c .in-sector-step .result in
     let v = c .args .self .now .copies .visible .now in
     let front : length (take done b) ≡ done = length-take done b ∙ omega arith in
     let all = ap length (c .loop-done .inv .2) ∙ length-laid o (take done b) v (omega (arith, c .pre .fits)) in
     let one : length (take (done + m - done) (drop done b)) ≤ m = omega (arith, length-take (done + m - done) (drop done b)) in
-    omega (arith, c .piece-step .ensures, c .pre .fits)
+    omega (arith, c .in-sector-step .ensures, c .pre .fits)
 
 pub loop-done-again : need.loop-done-again
 loop-done-again c =
@@ -62,16 +62,16 @@ loop-done-again c =
     let o = c .args .offset in
     let b = c .args .bytes .now in
     let done = c .loop-done .done in
-    let m = c .piece-step .result in
+    let m = c .in-sector-step .result in
     let v = c .args .self .now .copies .visible .now in
     let life = c .args .self .now .power .life in
     let e = evenly o done (length b) (omega arith) (i .6) in
-    let some : 0 < m = omega (arith, c .piece-step .ensures) in
-    let short : m ≤ 512 - (o + done) % 512 = omega (arith, c .piece-step .ensures) in
-    let le : done + m ≤ length b = omega (arith, c .piece-step .ensures) in
+    let some : 0 < m = omega (arith, c .in-sector-step .ensures) in
+    let short : m ≤ 512 - (o + done) % 512 = omega (arith, c .in-sector-step .ensures) in
+    let le : done + m ≤ length b = omega (arith, c .in-sector-step .ensures) in
     let one : enough 1 (c .loop-done .self .power .life) ≡ true = search needs in
     let ends : (Even o (done + min (512 - (o + done) % 512) (length b - done))) ⊎ (done + min (512 - (o + done) % 512) (length b - done) ≡ done + (length b - done)) → Even o (done + m) ⊎ (done + m ≡ length b) =
-    λ y. ⊎-elim (λ z. inl (subst (λ (k : ℕ). Even o (done + k)) (sym (c .piece-step .ensures)) z)) (λ z. inr (omega (arith, c .piece-step .ensures))) y in
+    λ y. ⊎-elim (λ z. inl (subst (λ (k : ℕ). Even o (done + k)) (sym (c .in-sector-step .ensures)) z)) (λ z. inr (omega (arith, c .in-sector-step .ensures))) y in
     let x = sector-more o done m life (c .loop-done .self .power .life) (c .serve .last .self .life) e some short (i .4) (i .5) one (c .serve .ensures .life .0 (search needs)) in (
       le,
       c .put .ensures .durable ∙ i .1,
