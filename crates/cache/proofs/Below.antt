@@ -13,7 +13,8 @@ use Rattle.storage.specs.Refusals.{Answer, Told}
 use Rattle.storage.specs.Meaning.{Meaning}
 use Rattle.storage.specs.Calls.{OnRead, OnWrite, OnSync}
 use Rattle.cache.specs.Chains.{OnGot}
-use Rattle.cache.specs.Steps.{lowered, Inside, OnFill, OnDown}
+use Rattle.storage.specs.Layers.{lowered, Inside}
+use Rattle.cache.specs.Steps.{OnFill, OnDown}
 use Rattle.cache.specs.Syncs.{OnSettle}
 
 module _ {O G : Type 0} (tells : Refusal O G → Told) (name : List ℕ) (m m′ : Meaning) where

@@ -11,7 +11,8 @@ use lib.Seq.{getD-set-other, getD-set-same}
 use Rattle.std.proofs.shelf.Tests.{cases-lt, cases-eq, cases-bool, both-ways, eq-eqb, cond-true}
 use Rattle.std.specs.declared.result.Result.{Result}
 use Rattle.std.specs.declared.result.Result.the-variants.{Ok, Err}
-use Rattle.storage.specs.Cells.{laid, part, Partly}
+use Rattle.storage.specs.Cells.{laid, part, length-part, Partly}
+use Rattle.storage.proofs.Lists.{part-at}
 use Rattle.storage.specs.Standing.{Standing}
 use Rattle.storage.specs.Meaning.{Meaning, Lawful, Within, Same}
 use Rattle.storage.specs.Calls.{Arrives, Ended, WriteDone, WriteEnded}
@@ -21,7 +22,7 @@ use Rattle.cache.specs.declared.line.Line.the-variants.{Empty, Clean, Dirty}
 use Rattle.cache.specs.Lines.{held, dirty, line, slot, shows, seen, length-seen, Kept}
 use Rattle.cache.specs.Cached.{Over, InOrder, cache-means}
 use Rattle.cache.specs.Steps.{Still, Lost, Filled, Unfilled, OnFill, OnDown}
-use Rattle.cache.proofs.Seeing.{seen-at, part-at, part-long, seen-below, down-seen, down-kept, length-down, fetch-seen, fetch-kept, put-seen, put-kept, length-put}
+use Rattle.cache.proofs.Seeing.{seen-at, seen-below, down-seen, down-kept, length-down, fetch-seen, fetch-kept, put-seen, put-kept, length-put}
 
 -- cells of the visible bytes over what stands below, twice
 standing-trans : (t t′ v s : List ℕ) → Standing 16 t v [] t′ → Standing 16 t′ v [] s → Standing 16 t v [] s
@@ -140,7 +141,7 @@ module _ (dir : List Line) (t : List ℕ) (n : ℕ) (m m′ : Meaning) (i-o : In
     few = omega (arith, i-o .few-lines)
 
     slot-long : length (slot i t) ≡ 512
-    slot-long = part-long (i * 512) 512 t (omega (arith, few, i-o .table-long))
+    slot-long = length-part (i * 512) 512 t (omega (arith, few, i-o .table-long))
 
     -- the dirty line has the bytes that the cache shows
     shown : (k : ℕ) → h * 512 ≤ k → k < h * 512 + length (slot i t) → getD (seen dir t n (m .visible)) k 0 ≡ getD (slot i t) (k - h * 512) 0

@@ -22,7 +22,8 @@ use Rattle.cache.specs.declared.line.Line.{Line}
 use Rattle.cache.specs.Lines.{seen, Kept}
 use Rattle.cache.specs.Cached.{Over, InOrder, cache-means}
 use Rattle.cache.specs.Chains.{OnGot}
-use Rattle.cache.specs.Steps.{Still, Lost, OnDown, lowered}
+use Rattle.storage.specs.Layers.{lowered}
+use Rattle.cache.specs.Steps.{Still, Lost, OnDown}
 use Rattle.cache.specs.Syncs.{AllClean, OnSettle}
 use Rattle.cache.proofs.Means.{over-alive, from-alive, over-dead, from-dead, over-below, still-lost}
 use Rattle.cache.proofs.Seeing.{seen-below}

@@ -13,8 +13,8 @@ use Rattle.std.specs.Iters.{counting}
 use Rattle.std.proofs.shelf.Lists.{getD-take, getD-drop}
 use Rattle.std.proofs.shelf.Counted.{getD-map-counting}
 use Rattle.std.proofs.shelf.Tests.{cases-lt, cases-eq, cases-bool, eqb-true, eqb-false, eq-eqb, ne-eqb, cond-true, cond-false, both-ways}
-use Rattle.storage.specs.Cells.{laid, part}
-use Rattle.storage.proofs.Lists.{laid-apart, laid-within, length-laid, same}
+use Rattle.storage.specs.Cells.{laid, part, length-part}
+use Rattle.storage.proofs.Lists.{part-at, laid-apart, laid-within, length-laid, same}
 use Rattle.cache.specs.declared.line.Line.{Line}
 use Rattle.cache.specs.declared.line.Line.the-variants.{Empty, Clean, Dirty}
 use Rattle.cache.specs.Lines.{held, dirty, line, slot, shows, seen, length-seen, Kept}
@@ -30,12 +30,6 @@ seen-same dir dir′ t t′ n xs xs′ l f =
     same 0 (seen dir′ t′ n xs′) (seen dir t n xs) (length-seen dir′ t′ n xs′ ∙ l ∙ sym (length-seen dir t n xs))
     (λ k h. let lt : k < length xs = omega (arith, length-seen dir′ t′ n xs′) in
     seen-at dir′ t′ n xs′ k (omega arith) ∙ f k lt ∙ sym (seen-at dir t n xs k lt))
-
-pub part-at : (o n : ℕ) (xs : List ℕ) (k : ℕ) → k < n → getD (part o n xs) k 0 ≡ getD xs (o + k) 0
-part-at o n xs k h = getD-take n (drop o xs) k 0 h ∙ getD-drop o xs k 0
-
-pub part-long : (o n : ℕ) (xs : List ℕ) → o + n ≤ length xs → length (part o n xs) ≡ n
-part-long o n xs h = simp (length-take, length-drop) (omega arith)
 
 -- a clean or empty line that holds a sector is the clean one of it
 clean-of : (l : Line) (s : ℕ) → dirty l ≡ false → held l s ≡ true → l ≡ Clean s
@@ -128,7 +122,7 @@ module _ (dir : List Line) (t : List ℕ) (n : ℕ) (xs : List ℕ) (kept : Kept
 
   module _ (long : length t ≡ 8192) where
     slot-long : length (slot i t) ≡ 512
-    slot-long = part-long (i * 512) 512 t (omega arith)
+    slot-long = length-part (i * 512) 512 t (omega arith)
 
     -- a dirty line goes down
     module _ (is : line dir i ≡ Dirty h) where
@@ -169,7 +163,7 @@ module _ (dir : List Line) (t : List ℕ) (n : ℕ) (xs : List ℕ) (kept : Kept
       fetched = laid (i * 512) (part (h * 512) 512 xs) t
 
       sector-long : length (part (h * 512) 512 xs) ≡ 512
-      sector-long = part-long (h * 512) 512 xs fits
+      sector-long = length-part (h * 512) 512 xs fits
 
       fetch-fits : i * 512 + length (part (h * 512) 512 xs) ≤ length t
       fetch-fits = omega (arith, sector-long)
@@ -257,8 +251,8 @@ pub held-part : (dir : List Line) (t : List ℕ) (n : ℕ) (xs : List ℕ) (i s 
     (skip len : ℕ) → skip + len ≤ 512 → part (i * 512 + skip) len t ≡ part (s * 512 + skip) len (seen dir t n xs)
 held-part dir t n xs i s long low home holds fits skip len short =
     let seen-long = length-seen dir t n xs in
-    let here : length (part (i * 512 + skip) len t) ≡ len = part-long (i * 512 + skip) len t (omega arith) in
-    let there : length (part (s * 512 + skip) len (seen dir t n xs)) ≡ len = part-long (s * 512 + skip) len (seen dir t n xs) (omega arith) in
+    let here : length (part (i * 512 + skip) len t) ≡ len = length-part (i * 512 + skip) len t (omega arith) in
+    let there : length (part (s * 512 + skip) len (seen dir t n xs)) ≡ len = length-part (s * 512 + skip) len (seen dir t n xs) (omega arith) in
     same 0 (part (i * 512 + skip) len t) (part (s * 512 + skip) len (seen dir t n xs)) (here ∙ sym there)
     (λ k l. let lt : k < len = omega arith in
     let at : ℕ = s * 512 + skip + k in

@@ -1,7 +1,6 @@
 -- What a cache does at each call, and what it answers.
 --   cache-name        the name in its faults
 --   Lifts o r x       the answer x is the inner result r, its fault carried whole
---   Declines o x      the answer x is OUTSIDE, with the cache's own link
 --   Inner             a read or write within the size: told GONE it is handed down as a sync; a call
 --                     of no bytes is handed down as it is; else it goes sector by sector
 --   Answers           a read or write: OUTSIDE first, and then nothing changes
@@ -13,12 +12,10 @@ use Prim.Native.Nat.{ℕ, _+_, _<_, _≤_}
 use lib.Chars.{codes}
 use lib.ListN.{length}
 use Rattle.std.specs.declared.result.Result.{Result}
-use Rattle.std.specs.declared.result.Result.the-variants.{Ok, Err}
 use Rattle.storage.specs.declared.refusal.LayerFault.{LayerFault}
 use Rattle.storage.specs.declared.refusal.Link.{Link}
-use Rattle.storage.specs.declared.refusal.Refusal.the-variants.{Outside, Gone}
-use Rattle.storage.specs.Layers.{Carries}
-use Rattle.storage.specs.Refusals.{Answer, step}
+use Rattle.storage.specs.Layers.{Declined, Lifted, lowered}
+use Rattle.storage.specs.Refusals.{Answer}
 use Rattle.storage.specs.Meaning.{Meaning}
 use Rattle.storage.specs.Calls.{Call, Reading, Writing, Syncing}
 use Rattle.cache.specs.declared.cache.Cache.{Cache}
@@ -29,16 +26,7 @@ abbrev pub cache-name : List ℕ
 cache-name = codes "cache"
 
 abbrev pub Lifts : {G : Type 0} → ℕ → Result (Unit {0}) G → Answer Link (LayerFault G) → Type 0
-Lifts o (Ok _) (Ok _) = Unit {0}
-Lifts o (Ok _) (Err x) = ⊥
-Lifts o (Err f) (Ok _) = ⊥
-Lifts o (Err f) (Err (Outside l)) = ⊥
-Lifts o (Err f) (Err (Gone g)) = Carries cache-name o f g
-
-abbrev pub Declines : {G : Type 0} → ℕ → Answer Link (LayerFault G) → Type 0
-Declines o (Ok _) = ⊥
-Declines o (Err (Outside l)) = step l ≡ record { name = cache-name; offset = o }
-Declines o (Err (Gone g)) = ⊥
+Lifts o r x = Lifted {O = Unit {0}} cache-name o (lowered r) x
 
 module _ {S O G : Type 0} (R : S → Call → Answer O G → S → Type 0) (f : S → Meaning) where
   pub record Inner (call : Call) (move : ℕ → Cache S → Cache S → Type 0) (o n : ℕ) (c : Cache S) (r : Result (Unit {0}) G) (d : Cache S) : Type 0 where
@@ -47,7 +35,7 @@ module _ {S O G : Type 0} (R : S → Call → Answer O G → S → Type 0) (f : 
     pub some : c .gone ≡ false → 0 < n → Ranges R f move c o n r d
 
   pub record Answers (call : Call) (move : ℕ → Cache S → Cache S → Type 0) (o n : ℕ) (c : Cache S) (x : Answer Link (LayerFault G)) (d : Cache S) : Type 0 where
-    pub past : f (c .below) .size < o + n → (d ≡ c) × Declines o x
+    pub past : f (c .below) .size < o + n → (d ≡ c) × Declined cache-name o x
     pub within : o + n ≤ f (c .below) .size → (r : Result (Unit {0}) G) × (Inner call move o n c r d) × (Lifts o r x)
 
   abbrev pub cache-did : Cache S → Call → Answer Link (LayerFault G) → Cache S → Type 0

@@ -1,6 +1,4 @@
 -- The steps of a cache's call, and what each does.
---   lowered r       an inner result, as the answer of the storage below
---   Inside x        the answer x is not OUTSIDE
 --   Still m m′      a step that shows nothing: the visible bytes stay, no more may stand, and one
 --                   that is gone already is as it was
 --   Lost m m′       a step at which the storage turned GONE: no more may stand
@@ -20,7 +18,7 @@ use Prim.Native.Nat.{ℕ, _+_, _*_, _%_}
 use lib.ListN.{length, getD, set}
 use Rattle.std.specs.declared.result.Result.{Result}
 use Rattle.std.specs.declared.result.Result.the-variants.{Ok, Err}
-use Rattle.storage.specs.declared.refusal.Refusal.the-variants.{Outside, Gone}
+use Rattle.storage.specs.declared.refusal.Refusal.the-variants.{Gone}
 use Rattle.storage.specs.Cells.{laid, part}
 use Rattle.storage.specs.Refusals.{Answer}
 use Rattle.storage.specs.Meaning.{Meaning, Within, Same}
@@ -29,15 +27,6 @@ use Rattle.cache.specs.declared.line.Line.{Line}
 use Rattle.cache.specs.declared.line.Line.the-variants.{Empty, Clean, Dirty}
 use Rattle.cache.specs.declared.cache.Cache.{Cache}
 use Rattle.cache.specs.Lines.{held, line, slot}
-
-abbrev pub lowered : {A O G : Type 0} → Result A G → Answer O G
-lowered (Ok a) = Ok tt
-lowered (Err f) = Err (Gone f)
-
-abbrev pub Inside : {O G : Type 0} → Answer O G → Type 0
-Inside (Ok a) = Unit {0}
-Inside (Err (Outside f)) = ⊥
-Inside (Err (Gone f)) = Unit {0}
 
 pub record Still (m m′ : Meaning) : Type 0 where
   pub size : m′ .size ≡ m .size

@@ -34,7 +34,7 @@ use Rattle.storage.specs.Standing.{Standing, unmarked}
 use Rattle.storage.specs.Lives.{lessened, enough}
 use Rattle.storage.specs.Refusals.{Answer, step}
 use Rattle.storage.specs.Meaning.{Meaning, Lawful}
-use Rattle.storage.specs.Calls.{Call, Reading, Writing, Syncing}
+use Rattle.storage.specs.Calls.{Call, Reading, Writing, Syncing, offset-of}
 
 pub record Held : Type 0 where
   pub durable : List ℕ
@@ -130,11 +130,6 @@ abbrev pub after : Kind → Held → Call → Held
 after K h (Reading o n) = h
 after K h (Writing o b) = written K h o b (outcome K h (Writing o b))
 after K h Syncing = synced h (outcome K h Syncing)
-
-abbrev pub offset-of : Call → ℕ
-offset-of (Reading o n) = o
-offset-of (Writing o b) = o
-offset-of Syncing = 0
 
 abbrev pub Answered : List ℕ → ℕ → Outcome → Answer Link Link → Type 0
 Answered name o out (Ok _) = out ≡ served

@@ -4,15 +4,12 @@ use mathlib.Core.List.{List}
 use mathlib.Core.Logic.{_⊎_, inl, inr}
 use Prim.Native.Nat.{ℕ, _+_, _-_, _/_, _%_, _<_, _≤_}
 use native.Mathlib.Omega.{arith}
-use lib.ListN.{length, drop, getD, length-take, length-drop}
-use Rattle.std.proofs.shelf.Lists.{getD-past, getD-take, getD-drop}
+use lib.ListN.{length, getD, length-take, length-drop}
+use Rattle.std.proofs.shelf.Lists.{getD-past}
 use Rattle.std.proofs.shelf.Tests.{cases-lt}
-use Rattle.storage.specs.Cells.{laid, part, Partly}
-use Rattle.storage.proofs.Lists.{laid-apart, laid-within, length-laid, same}
-use Rattle.partition.specs.Parts.{length-part, Agree}
-
-pub at : (b n : ℕ) (s : List ℕ) (k : ℕ) → k < n → getD (part b n s) k 0 ≡ getD s (b + k) 0
-at b n s k l = getD-take n (drop b s) k 0 l ∙ getD-drop b s k 0
+use Rattle.storage.specs.Cells.{laid, part, length-part, Partly}
+use Rattle.storage.proofs.Lists.{part-at, laid-apart, laid-within, length-laid, same}
+use Rattle.partition.specs.Parts.{Agree}
 
 past : (b n : ℕ) (s : List ℕ) (k : ℕ) → b + n ≤ length s → n ≤ k → getD (part b n s) k 0 ≡ 0
 past b n s k fits l = getD-past (part b n s) k 0 (omega (arith, length-part b n s fits))
@@ -22,7 +19,7 @@ pub part-part : (b n o c : ℕ) (s : List ℕ) → b + n ≤ length s → o + c 
 part-part b n o c s fits h =
     same 0 (part (b + o) c s) (part o c (part b n s)) (simp (length-take, length-drop) (omega arith))
     (λ k l. let lt : k < c = omega (arith, simp length-take at l) in
-    at (b + o) c s k lt ∙ ap (λ (i : ℕ). getD s i 0) (omega arith) ∙ sym (at o c (part b n s) k lt ∙ at b n s (o + k) (omega arith)))
+    part-at (b + o) c s k lt ∙ ap (λ (i : ℕ). getD s i 0) (omega arith) ∙ sym (part-at o c (part b n s) k lt ∙ part-at b n s (o + k) (omega arith)))
 
 pub part-laid : (b n o : ℕ) (bytes s : List ℕ) → b + n ≤ length s → o + length bytes ≤ n → part b n (laid (b + o) bytes s) ≡ laid o bytes (part b n s)
 part-laid b n o bytes s fits h =
@@ -32,12 +29,12 @@ part-laid b n o bytes s fits h =
     let ll = length-part b n (laid (b + o) bytes s) (omega arith) in
     let here : o + length bytes ≤ length (part b n s) = omega arith in
     same 0 (part b n (laid (b + o) bytes s)) (laid o bytes (part b n s)) (ll ∙ sym (length-laid o bytes (part b n s) here ∙ lp))
-    (λ k l. let kn : k < n = omega arith in at b n (laid (b + o) bytes s) k kn ∙ elim (cases-lt k o) [
-      | inl x ↦ laid-apart (b + o) bytes s (b + k) all (inl (omega arith)) ∙ sym (laid-apart o bytes (part b n s) k here (inl x) ∙ at b n s k kn)
+    (λ k l. let kn : k < n = omega arith in part-at b n (laid (b + o) bytes s) k kn ∙ elim (cases-lt k o) [
+      | inl x ↦ laid-apart (b + o) bytes s (b + k) all (inl (omega arith)) ∙ sym (laid-apart o bytes (part b n s) k here (inl x) ∙ part-at b n s k kn)
       | inr x ↦ elim (cases-lt k (o + length bytes)) [
         | inl y ↦ laid-within (b + o) bytes s (b + k) all (omega arith) (omega arith) ∙ ap (λ (i : ℕ). getD bytes i 0) (omega arith)
             ∙ sym (laid-within o bytes (part b n s) k here x y)
-        | inr y ↦ laid-apart (b + o) bytes s (b + k) all (inr (omega arith)) ∙ sym (laid-apart o bytes (part b n s) k here (inr y) ∙ at b n s k kn)
+        | inr y ↦ laid-apart (b + o) bytes s (b + k) all (inr (omega arith)) ∙ sym (laid-apart o bytes (part b n s) k here (inr y) ∙ part-at b n s k kn)
       ]
     ])
 
@@ -48,12 +45,12 @@ part-partly b n o bytes u t aligned fits h p =
     record {
       long = length-part b n t there ∙ sym (length-part b n u fits);
       apart = λ k out. elim (cases-lt k n) [
-        | inl l ↦ at b n t k l ∙ p .apart (b + k) (elim out [ inl x ↦ inl (omega arith) | inr x ↦ inr (omega arith) ]) ∙ sym (at b n u k l)
+        | inl l ↦ part-at b n t k l ∙ p .apart (b + k) (elim out [ inl x ↦ inl (omega arith) | inr x ↦ inr (omega arith) ]) ∙ sym (part-at b n u k l)
         | inr l ↦ past b n t k there l ∙ sym (past b n u k fits l)
       ];
       whole = λ j lo hi. elim (p .whole (b / 16 + j) (omega arith) (omega arith)) [
-        | inl f ↦ inl (λ k kj. at b n t k (omega arith) ∙ f (b + k) (omega arith) ∙ sym (at b n u k (omega arith)))
-        | inr f ↦ inr (λ k kj. at b n t k (omega arith) ∙ f (b + k) (omega arith) ∙ ap (λ (i : ℕ). getD bytes i 0) (omega arith))
+        | inl f ↦ inl (λ k kj. part-at b n t k (omega arith) ∙ f (b + k) (omega arith) ∙ sym (part-at b n u k (omega arith)))
+        | inr f ↦ inr (λ k kj. part-at b n t k (omega arith) ∙ f (b + k) (omega arith) ∙ ap (λ (i : ℕ). getD bytes i 0) (omega arith))
       ];
     }
 

@@ -1,6 +1,6 @@
 -- What a call on a part does, from what the call below did.
 use mathlib.Core.Path.{_≡_, refl, sym, ap, subst, _∙_}
-use mathlib.Core.List.{List, _∷_, []}
+use mathlib.Core.List.{List}
 use mathlib.Core.Bool.{true}
 use Prim.Native.Nat.{ℕ, _+_, _≤_}
 use native.Mathlib.Omega.{arith}
@@ -12,12 +12,13 @@ use Rattle.storage.specs.declared.refusal.Link.{Link}
 use Rattle.storage.specs.declared.refusal.Refusal.{Refusal}
 use Rattle.storage.specs.declared.refusal.Refusal.the-variants.{Outside, Gone}
 use Rattle.storage.specs.Cells.{laid, part, Partly}
-use Rattle.storage.specs.Refusals.{Answer, Step, step, Told, Tells, told}
+use Rattle.storage.specs.Refusals.{Answer, Step, Told, told}
 use Rattle.storage.specs.Meaning.{Meaning, Lawful, Within, Same}
-use Rattle.storage.specs.Calls.{Call, Arrives, Served, Ended, OnRead, OnWrite, OnSync}
-use Rattle.storage.specs.Layers.{Carries, Lifted}
+use Rattle.storage.specs.Calls.{Call, offset-of, Arrives, Served, Ended, OnRead, OnWrite, OnSync}
+use Rattle.storage.specs.Layers.{Lifted}
+use Rattle.storage.proofs.Layers.{own, carried, tells-gone}
 use Rattle.partition.specs.declared.Partition.{Partition}
-use Rattle.partition.specs.Parts.{PartInOrder, part-means, moved, offset-of, end-of, Agree, Frame}
+use Rattle.partition.specs.Parts.{PartInOrder, part-means, moved, end-of, Agree, Frame}
 use Rattle.partition.specs.Partitions.{partition-name, PartDid}
 use Rattle.partition.proofs.Bytes.{part-part, part-laid, part-partly, agree-same, agree-laid, agree-partly}
 
@@ -26,17 +27,6 @@ still b n m m′ i o e = record {
   below = o;
   fits = record { aligned = i .fits .aligned; sized = i .fits .sized; ends = omega (arith, i .fits .ends) };
 }
-
--- the faults of a partition
-abbrev own : Link → List Step
-own l = step l ∷ []
-
-abbrev carried : {G : Type 0} → (G → List Step) → LayerFault G → List Step
-carried links f = step (f .link) ∷ links (f .below)
-
-tells-gone : {G : Type 0} (links : G → List Step) (o : ℕ) (f : G) (g : LayerFault G) → Carries partition-name o f g →
-    Tells 2 partition-name o (told own (carried links) (Gone g))
-tells-gone links o f g c = record { numbered = refl; below = links (g .below); chained = ap (λ (s : Step). s ∷ links (g .below)) (c .named) }
 
 module _ (b n : ℕ) (m m′ : Meaning) where
   within : Within m′ m → Within (part-means b n m′) (part-means b n m)
@@ -115,7 +105,7 @@ module _ {O G : Type 0} (tells : Refusal O G → Told) (name : List ℕ) (links 
   on-read o old new (Err (Gone f)) (Err (Gone g)) fits long d u = record {
     in-order = still b n m m′ i still-in-order (d .1 .ended .size);
     does = (
-      tells-gone links o f g u,
+      tells-gone partition-name links o f g u,
       record { fits = fits; ended = ended b n m m′ (d .1 .ended); stands = within b n m m′ (d .1 .stands); zeroed = d .1 .zeroed },
     );
     frame = quiet b n m m′ (dead-shows m m′ (m .visible) (d .1 .ended)) (d .1 .stands);
@@ -141,7 +131,7 @@ module _ {O G : Type 0} (tells : Refusal O G → Told) (name : List ℕ) (links 
   on-write o bytes (Err (Gone f)) (Err (Gone g)) fits d u = record {
     in-order = still b n m m′ i still-in-order (d .1 .ended .size);
     does = (
-      tells-gone links o f g u,
+      tells-gone partition-name links o f g u,
       record { fits = fits; ended = ended b n m m′ (d .1 .ended); stands = arrives b n m m′ l i o bytes fits (d .1 .stands) },
     );
     frame = apart b n m m′ l i o bytes fits (dead-shows m m′ (laid (b + o) bytes (m .visible)) (d .1 .ended)) (d .1 .stands);
@@ -165,7 +155,7 @@ module _ {O G : Type 0} (tells : Refusal O G → Told) (name : List ℕ) (links 
   on-sync (Err (Gone f)) (Err (Outside g)) d u = absurd u
   on-sync (Err (Gone f)) (Err (Gone g)) d u = record {
     in-order = still b n m m′ i still-in-order (d .1 .ended .size);
-    does = (tells-gone links 0 f g u, record { ended = ended b n m m′ (d .1 .ended); stands = within b n m m′ (d .1 .stands) });
+    does = (tells-gone partition-name links 0 f g u, record { ended = ended b n m m′ (d .1 .ended); stands = within b n m m′ (d .1 .stands) });
     frame = quiet b n m m′ (dead-shows m m′ (m .visible) (d .1 .ended)) (d .1 .stands);
   }
 

@@ -4,7 +4,6 @@
 --   Over s b n p        p is the part of n bytes from offset b on of s, which it fits, and in order
 --   OnOver              what a mount gave: a partition of the storage exactly where the part fits
 --                       it, or else that storage back
---   Own o r             r is OUTSIDE, with the partition's name and the offset o
 --   MadeBelow           the call was made below, moved to the part, and the answer is the one
 --                       from below, its fault carried whole
 --   PartDid             what a partition did: a range past its size it refused itself and changed
@@ -19,14 +18,13 @@ use Rattle.std.specs.declared.result.Result.the-variants.{Ok, Err}
 use Rattle.storage.specs.declared.refusal.BadMount.{BadMount}
 use Rattle.storage.specs.declared.refusal.LayerFault.{LayerFault}
 use Rattle.storage.specs.declared.refusal.Link.{Link}
-use Rattle.storage.specs.declared.refusal.Refusal.the-variants.{Outside, Gone}
 use Rattle.storage.specs.Cells.{part}
-use Rattle.storage.specs.Refusals.{Answer, step}
+use Rattle.storage.specs.Refusals.{Answer}
 use Rattle.storage.specs.Meaning.{Meaning}
-use Rattle.storage.specs.Calls.{Call}
-use Rattle.storage.specs.Layers.{Lifted}
+use Rattle.storage.specs.Calls.{Call, offset-of}
+use Rattle.storage.specs.Layers.{Declined, Lifted}
 use Rattle.partition.specs.declared.Partition.{Partition}
-use Rattle.partition.specs.Parts.{Fits, Frame, part-means, moved, offset-of, end-of}
+use Rattle.partition.specs.Parts.{Fits, Frame, part-means, moved, end-of}
 
 abbrev pub partition-name : List ℕ
 partition-name = codes "partition"
@@ -44,11 +42,6 @@ abbrev pub OnOver : {S : Type 0} → (S → Meaning) → S → ℕ → ℕ → R
 OnOver means s b n (Ok p) = Over means s b n p
 OnOver means s b n (Err e) = (Fits b n (means s) → ⊥) × (e .given ≡ s)
 
-abbrev pub Own : {G : Type 0} → ℕ → Answer Link G → Type 0
-Own o (Ok _) = ⊥
-Own o (Err (Outside l)) = step l ≡ record { name = partition-name; offset = o }
-Own o (Err (Gone f)) = ⊥
-
 module _ {S O G : Type 0} (means : S → Meaning) (did : S → Call → Answer O G → S → Type 0) (p : Partition S) (call : Call) (r : Answer Link (LayerFault G)) (q : Partition S) where
   pub record MadeBelow : Type 0 where
     pub answer : Answer O G
@@ -58,7 +51,7 @@ module _ {S O G : Type 0} (means : S → Meaning) (did : S → Call → Answer O
   pub record PartDid : Type 0 where
     pub base : q .base ≡ p .base
     pub size : q .size ≡ p .size
-    pub outside : p .size < end-of call → (q ≡ p) × Own (offset-of call) r
+    pub outside : p .size < end-of call → (q ≡ p) × Declined partition-name (offset-of call) r
     pub inside : end-of call ≤ p .size → MadeBelow
     pub frame : Frame (p .base) (p .size) (means (p .below)) (means (q .below))
 

@@ -4,24 +4,19 @@
 --   PartInOrder b n m   the storage below is in order, and the part fits it
 --   part-means b n m    what the part means
 --   moved b c           the call c as it is made below, b bytes on
---   offset-of c         the offset that the call c was made with; 0 of a sync
 --   end-of c            where the range of the call c ends; 0 of a sync
 --   Agree b n t s       s is t outside the n bytes from offset b on
 --   Frame b n m m′      nothing outside the part changed: while it lives the visible bytes agree,
 --                       and whatever may stand agrees with something that might have stood
---   NotOutside x        the answer x is not OUTSIDE
 use mathlib.Core.Path.{_≡_, refl, ap, _∙_}
 use mathlib.Core.List.{List}
 use mathlib.Core.Bool.{true}
 use mathlib.Core.Logic.{_⊎_}
 use Prim.Native.Nat.{ℕ, _+_, _%_, _<_, _≤_}
 use native.Mathlib.Omega.{arith}
-use lib.ListN.{length, getD, length-take, length-drop}
-use Rattle.std.specs.declared.result.Result.the-variants.{Ok, Err}
-use Rattle.storage.specs.declared.refusal.Refusal.the-variants.{Outside, Gone}
+use lib.ListN.{length, getD}
 use Rattle.storage.specs.Sizes.{SizeRule, sector-width}
-use Rattle.storage.specs.Cells.{part}
-use Rattle.storage.specs.Refusals.{Answer}
+use Rattle.storage.specs.Cells.{part, length-part}
 use Rattle.storage.specs.Meaning.{Meaning, Lawful}
 use Rattle.storage.specs.Calls.{Call, Reading, Writing, Syncing}
 
@@ -43,9 +38,6 @@ part-means b n m = record {
   in-order = PartInOrder b n m;
 }
 
-pub length-part : (b n : ℕ) (s : List ℕ) → b + n ≤ length s → length (part b n s) ≡ n
-length-part b n s h = simp (length-take, length-drop) (omega arith)
-
 pub part-lawful : (b n : ℕ) (m : Meaning) → (m .in-order → Lawful m) → PartInOrder b n m → Lawful (part-means b n m)
 part-lawful b n m below i =
     let l = below (i .below) in
@@ -61,11 +53,6 @@ moved b (Reading o n) = Reading (b + o) n
 moved b (Writing o bytes) = Writing (b + o) bytes
 moved b Syncing = Syncing
 
-abbrev pub offset-of : Call → ℕ
-offset-of (Reading o n) = o
-offset-of (Writing o bytes) = o
-offset-of Syncing = 0
-
 abbrev pub end-of : Call → ℕ
 end-of (Reading o n) = o + n
 end-of (Writing o bytes) = o + length bytes
@@ -78,8 +65,3 @@ pub record Agree (b n : ℕ) (t s : List ℕ) : Type 0 where
 pub record Frame (b n : ℕ) (m m′ : Meaning) : Type 0 where
   pub visible : m′ .lives ≡ true → Agree b n (m .visible) (m′ .visible)
   pub stands : (s : List ℕ) → m′ .stands s → (t : List ℕ) × (m .stands t) × (Agree b n t s)
-
-abbrev pub NotOutside : {O G : Type 0} → Answer O G → Type 0
-NotOutside (Ok _) = Unit {0}
-NotOutside (Err (Outside f)) = ⊥
-NotOutside (Err (Gone f)) = Unit {0}

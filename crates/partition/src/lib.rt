@@ -4,10 +4,10 @@
 // stand on it and whether it lives are read off the storage below. A range that passes its
 // own size it refuses itself, so no call touches a byte below outside the part.
 ghost use mathlib.Core.Path.{_≡_};
-ghost use Rattle.partition.specs.Parts.{NotOutside, part-lawful};
+ghost use Rattle.partition.specs.Parts.{part-lawful};
 ghost use Rattle.partition.specs.Partitions.{OnOver, PartDid, Sets, means-of, partition-name};
 ghost use Rattle.storage.specs.Cells.{part};
-ghost use Rattle.storage.specs.Layers.{Lifted};
+ghost use Rattle.storage.specs.Layers.{Inside, Lifted};
 ghost use Rattle.storage.specs.Refusals.{step};
 use storage::cuttable::Cuttable;
 use storage::refusal::BadMount;
@@ -58,7 +58,7 @@ fn lift<O: Drop, G>(
     offset: usize,
     answer: Result<(), Refusal<O, G>>,
 ) -> Result<(), Refusal<Link, LayerFault<G>>>
-    requires { ⌜ NotOutside answer ⌝ }
+    requires { ⌜ Inside answer ⌝ }
     ensures { λ r. ⌜ Lifted partition-name offset answer r ⌝ }
 {
     match answer {

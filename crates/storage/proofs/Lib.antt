@@ -3,3 +3,4 @@ pub mod Marks
 pub mod Arriving
 pub mod Storing
 pub mod Sectors
+pub mod Layers

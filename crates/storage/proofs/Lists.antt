@@ -6,12 +6,12 @@ use Prim.Native.Nat.{ℕ, _+_, _-_, _*_, _/_, _<_, _≤_}
 use native.Mathlib.Nat.{add-zero, mul-div-le, lt-mul-div-succ, mul-add}
 use native.Mathlib.Omega.{arith}
 use borrow.Author.Needs.{needs}
-use lib.ListN.{length, getD}
-use Rattle.std.proofs.shelf.Lists.{same-lists, getD-default, getD-past, getD-append-left, getD-append-right, length-append, take-append-drop, places}
+use lib.ListN.{length, getD, drop}
+use Rattle.std.proofs.shelf.Lists.{same-lists, getD-default, getD-past, getD-append-left, getD-append-right, getD-take, getD-drop, length-append, take-append-drop, places}
 use Rattle.std.proofs.shelf.Counted.{getD-map-counting, length-map-counting}
 use Rattle.std.proofs.shelf.Tests.{cases-lt}
 use Rattle.std.specs.Iters.{counting}
-use Rattle.storage.specs.Cells.{laid}
+use Rattle.storage.specs.Cells.{laid, part}
 
 pub laid-apart : (o : ℕ) (b v : List ℕ) (k : ℕ) → o + length b ≤ length v → (k < o) ⊎ (o + length b ≤ k) → getD (laid o b v) k 0 ≡ getD v k 0
 laid-apart o b v k fits (inl h) = search (needs, places)
@@ -52,6 +52,9 @@ laid-laid o n a c v la fits =
         ]
       ]
     ])
+
+pub part-at : (o n : ℕ) (s : List ℕ) (k : ℕ) → k < n → getD (part o n s) k 0 ≡ getD s (o + k) 0
+part-at o n s k l = getD-take n (drop o s) k 0 l ∙ getD-drop o s k 0
 
 -- a list that is made from a function of the index, and past its end the default
 pub made-at : {X : Type 0} (f : ℕ → X) (d : X) (n k : ℕ) → (n ≤ k → f k ≡ d) → getD (map f (counting 0 n)) k d ≡ f k

@@ -1,5 +1,6 @@
 -- What each call does to what a storage means.
 --   Call         a call: a read of n bytes at an offset, a write of bytes at an offset, a sync
+--   offset-of c  the offset that the call c was made with; 0 of a sync
 --   Arrives      all that may stand afterwards comes from the write partly arriving on
 --                something that might have stood before
 --   Past         OUTSIDE: the range passes the size, and nothing changes
@@ -23,6 +24,11 @@ pub data Call : Type 0 where
   Reading : ℕ → ℕ → Call
   Writing : ℕ → List ℕ → Call
   Syncing : Call
+
+abbrev pub offset-of : Call → ℕ
+offset-of (Reading o n) = o
+offset-of (Writing o bytes) = o
+offset-of Syncing = 0
 
 abbrev pub Arrives : ℕ → List ℕ → Meaning → Meaning → Type 0
 Arrives o bytes m m′ = (s : List ℕ) → m′ .stands s → (t : List ℕ) × (m .stands t) × (Partly cell-width o bytes t s)

@@ -7,13 +7,17 @@ use mathlib.Core.Path.{_≡_}
 use mathlib.Core.List.{List, _++_}
 use mathlib.Core.Logic.{_⊎_}
 use Prim.Native.Nat.{ℕ, _+_, _-_, _*_, _/_, _<_, _≤_}
-use lib.ListN.{length, take, drop, getD}
+use native.Mathlib.Omega.{arith}
+use lib.ListN.{length, take, drop, getD, length-take, length-drop}
 
 abbrev pub laid : ℕ → List ℕ → List ℕ → List ℕ
 laid o new old = take o old ++ (new ++ drop (o + length new) old)
 
 abbrev pub part : ℕ → ℕ → List ℕ → List ℕ
 part o n s = take n (drop o s)
+
+pub length-part : (o n : ℕ) (s : List ℕ) → o + n ≤ length s → length (part o n s) ≡ n
+length-part o n s h = simp (length-take, length-drop) (omega arith)
 
 abbrev pub InCell : ℕ → ℕ → (ℕ → Type 0) → Type 0
 InCell w j P = (k : ℕ) → k / w ≡ j → P k

@@ -1,9 +1,7 @@
 use borrow.Author.Needs.{needs}
-use mathlib.Core.List.{[], _∷_}
 use Prim.Native.Nat.{_+_, _≤_}
 use native.Mathlib.Omega.{arith}
 use lib.ListN.{length}
-use Rattle.storage.specs.Refusals.{step}
 use Rattle.cache.specs.Cached.{means-of}
 use Rattle.cache.proofs.Lifting.{lift-read}
 use Rattle.cache.proofs.storing.CacheStorage.read.Needs as need
@@ -16,6 +14,6 @@ returns g c =
     let fits : c .args .offset + length (c .args .buf .now) ≤ f s .size = search needs in
     record {
       in-order = d .in-order;
-      does = lift-read (λ l. step l ∷ []) (g .Gone·Chain .links) (f s) (f (c .read-inside .last .self)) (c .args .offset) (c .args .buf .now) (c .read-inside .last .buf) (c .read-inside .result) (c .lift .result) (c .lift .ensures) (d .does);
+      does = lift-read (g .Gone·Chain .links) (f s) (f (c .read-inside .last .self)) (c .args .offset) (c .args .buf .now) (c .read-inside .last .buf) (c .read-inside .result) (c .lift .result) (c .lift .ensures) (d .does);
       did = record { past = λ past. absurd (omega arith); within = λ _. (c .read-inside .result, d .did, c .lift .ensures) };
     }

@@ -1,5 +1,3 @@
-use mathlib.Core.List.{[], _∷_}
-use Rattle.storage.specs.Refusals.{step}
 use Rattle.cache.specs.Cached.{means-of}
 use Rattle.cache.proofs.Lifting.{lift-sync}
 use Rattle.cache.proofs.storing.CacheStorage.sync.Needs as need
@@ -10,6 +8,6 @@ returns g c =
     let d = c .settle .ensures in
     record {
       in-order = d .in-order;
-      does = lift-sync (λ l. step l ∷ []) (g .Gone·Chain .links) (f (c .args .self .now)) (f (c .settle .last .self)) (c .settle .result) (c .lift .result) (c .lift .ensures) (d .does);
+      does = lift-sync (g .Gone·Chain .links) (f (c .args .self .now)) (f (c .settle .last .self)) (c .settle .result) (c .lift .result) (c .lift .ensures) (d .does);
       did = (c .settle .result, d .did, c .lift .ensures);
     }

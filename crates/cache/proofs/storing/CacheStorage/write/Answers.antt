@@ -1,9 +1,7 @@
 use borrow.Author.Needs.{needs}
-use mathlib.Core.List.{[], _∷_}
 use Prim.Native.Nat.{_+_, _≤_}
 use native.Mathlib.Omega.{arith}
 use lib.ListN.{length}
-use Rattle.storage.specs.Refusals.{step}
 use Rattle.cache.specs.Cached.{means-of}
 use Rattle.cache.proofs.Lifting.{lift-write}
 use Rattle.cache.proofs.storing.CacheStorage.write.Needs as need
@@ -16,6 +14,6 @@ returns g c =
     let fits : c .args .offset + length (c .args .bytes .now) ≤ f s .size = search needs in
     record {
       in-order = d .in-order;
-      does = lift-write (λ l. step l ∷ []) (g .Gone·Chain .links) (f s) (f (c .write-inside .last .self)) (c .args .offset) (c .args .bytes .now) (c .write-inside .result) (c .lift .result) (c .lift .ensures) (d .does);
+      does = lift-write (g .Gone·Chain .links) (f s) (f (c .write-inside .last .self)) (c .args .offset) (c .args .bytes .now) (c .write-inside .result) (c .lift .result) (c .lift .ensures) (d .does);
       did = record { past = λ past. absurd (omega arith); within = λ _. (c .write-inside .result, d .did, c .lift .ensures) };
     }

@@ -5,7 +5,7 @@ use lib.ListN.{length, take, drop}
 use Rattle.std.proofs.shelf.Lists.{places}
 use Rattle.std.proofs.shelf.Parts.{overwrites}
 use Rattle.storage.specs.Calls.{Reading}
-use Rattle.cache.specs.Steps.{lowered}
+use Rattle.storage.specs.Layers.{lowered}
 use Rattle.cache.proofs.Below.{filled}
 use Rattle.cache.proofs.table.Table.fill_from.Needs as need
 

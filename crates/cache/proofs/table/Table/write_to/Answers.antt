@@ -5,7 +5,8 @@ use native.Mathlib.Omega.{arith}
 use lib.ListN.{take, drop}
 use Rattle.std.proofs.shelf.Lists.{places}
 use Rattle.storage.specs.Calls.{Writing}
-use Rattle.cache.specs.Steps.{OnDown, lowered}
+use Rattle.storage.specs.Layers.{lowered}
+use Rattle.cache.specs.Steps.{OnDown}
 use Rattle.cache.proofs.table.Table.write_to.Needs as need
 
 pub write-below-requires : need.write-below-requires
