@@ -6,3 +6,4 @@ pub mod Sinking
 pub mod Passing
 pub mod Lifting
 pub mod Fresh
+pub mod Holding

@@ -63,7 +63,7 @@ held-self : (l : Line) (s h : ℕ) → (l ≡ Clean h) ⊎ (l ≡ Dirty h) → h
 held-self l s h (inl e) f = eqb-true h s (subst (λ (x : Line). held x s ≡ true) e f)
 held-self l s h (inr e) f = eqb-true h s (subst (λ (x : Line). held x s ≡ true) e f)
 
-both-held : (l : Line) (s h : ℕ) → held l s ≡ true → held l h ≡ true → s ≡ h
+pub both-held : (l : Line) (s h : ℕ) → held l s ≡ true → held l h ≡ true → s ≡ h
 both-held Empty s h e f = absurd (both-ways false refl e)
 both-held (Clean q) s h e f = sym (eqb-true q s e) ∙ eqb-true q h f
 both-held (Dirty q) s h e f = sym (eqb-true q s e) ∙ eqb-true q h f

@@ -3,7 +3,8 @@
 --   Lifts o r x       the answer x is the inner result r, its fault carried whole
 --   Inner             a read or write within the size: told GONE it is handed down as a sync; a call
 --                     of no bytes is handed down as it is; else it goes sector by sector
---   Answers           a read or write: OUTSIDE first, and then nothing changes
+--   Answers           a read or write: OUTSIDE first, and then nothing changes; `holding` says in
+--                     plain terms which sectors are held then
 --   cache-did         what it did at a call
 use mathlib.Core.Path.{_≡_}
 use mathlib.Core.List.{List}
@@ -11,6 +12,7 @@ use mathlib.Core.Bool.{Bool, true, false}
 use Prim.Native.Nat.{ℕ, _+_, _<_, _≤_}
 use lib.Chars.{codes}
 use lib.ListN.{length}
+use Rattle.std.specs.Results.{isOk}
 use Rattle.std.specs.declared.result.Result.{Result}
 use Rattle.storage.specs.declared.refusal.LayerFault.{LayerFault}
 use Rattle.storage.specs.declared.refusal.Link.{Link}
@@ -20,6 +22,7 @@ use Rattle.storage.specs.Meaning.{Meaning}
 use Rattle.storage.specs.Calls.{Call, Reading, Writing, Syncing}
 use Rattle.cache.specs.declared.cache.Cache.{Cache}
 use Rattle.cache.specs.Chains.{ReadStep, WriteStep, Ranges}
+use Rattle.cache.specs.Holding.{Holding}
 use Rattle.cache.specs.Syncs.{Passes, Settles}
 
 abbrev pub cache-name : List ℕ
@@ -37,6 +40,7 @@ module _ {S O G : Type 0} (R : S → Call → Answer O G → S → Type 0) (f : 
   pub record Answers (call : Call) (move : ℕ → Cache S → Cache S → Type 0) (o n : ℕ) (c : Cache S) (x : Answer Link (LayerFault G)) (d : Cache S) : Type 0 where
     pub past : f (c .below) .size < o + n → (d ≡ c) × Declined cache-name o x
     pub within : o + n ≤ f (c .below) .size → (r : Result (Unit {0}) G) × (Inner call move o n c r d) × (Lifts o r x)
+    pub holding : o + n ≤ f (c .below) .size → c .gone ≡ false → 0 < n → Holding o n (isOk x) c d
 
   abbrev pub cache-did : Cache S → Call → Answer Link (LayerFault G) → Cache S → Type 0
   cache-did c (Reading o n) x d = Answers (Reading o n) (ReadStep R f) o n c x d

@@ -5,3 +5,4 @@ pub mod Chains
 pub mod Syncs
 pub mod Did
 pub mod Made
+pub mod Holding
