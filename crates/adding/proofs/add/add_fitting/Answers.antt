@@ -20,12 +20,12 @@ same_length h b n e =
     let sum : h.used + 4 + length b ≡ need h.used b = omega arith in
     e ∙ ap (grown_length h.header.ring) sum
 
-pub cast-grown-length : needs.cast-grown-length
-cast-grown-length g c =
+pub overflow_cast-grown_length : needs.overflow_cast-grown_length
+overflow_cast-grown_length g c =
     let h = c.args.head in
     let b = c.args.bytes.now in
     let law = g.S.Storage.lawful c.args.s.now c.requires.held.1.in_order in
-    let small : h.size ≤ 16777216 = omega (arith, c.requires.held.1.size-is, law.sized.most) in
+    let small : h.size ≤ 16777216 = omega (arith, c.requires.held.1.size_is, law.sized.most) in
     omega (arith, (head_grown h b small c.requires.room).fits, largest_fits h small, same_length h b c.grown_length.result c.grown_length.ensures)
 
 pub grow-requires : needs.grow-requires
@@ -33,7 +33,7 @@ grow-requires g c =
     let h = c.args.head in
     let b = c.args.bytes.now in
     let law = g.S.Storage.lawful c.args.s.now c.requires.held.1.in_order in
-    let small : h.size ≤ 16777216 = omega (arith, c.requires.held.1.size-is, law.sized.most) in
+    let small : h.size ≤ 16777216 = omega (arith, c.requires.held.1.size_is, law.sized.most) in
     let e = same_length h b c.grown_length.result c.grown_length.ensures in
     let k = head_grown h b small c.requires.room in
     record {
@@ -43,8 +43,8 @@ grow-requires g c =
       fits = omega (arith, k.fits, largest_fits h small, e);
     }
 
-pub returns-in-Break-head : needs.returns-in-Break-head
-returns-in-Break-head g c =
+pub returns-in_err-head : needs.returns-in_err-head
+returns-in_err-head g c =
     let m = g.S.Storage.means in
     let did = g.S.Storage.did in
     let h = c.args.head in
@@ -53,10 +53,10 @@ returns-in-Break-head g c =
     let t = c.grow.new.s in
     let short : h.header.ring < need h.used b = omega arith in
     let e = same_length h b c.grown_length.result c.grown_length.ensures in
-    let f = c.in-err-head.field-0.0 in
-    let d = c.in-err-head.ensures in
+    let f = c.in_err-head.field-0.0 in
+    let d = c.in_err-head.ensures in
     let calls = subst (λ (n : ℕ). Asked did (GrowCall h.header n) {A = Unit {0}} (copies (carried 16 h.header h.used) + 3) (Err f) s t) e d.calls in
-    let p = err_from_is_err_and c.from-residual.result c.from-residual.ensures.1 in
+    let p = err_from_is_err_and c.from_residual.result c.from_residual.ensures.1 in
     rw (p.1, p.2) (record {
       in_order = d.in_order;
       does = λ rs held. grow_fell h rs b (m s) (m t) (m t) short (d.does rs held);
@@ -70,11 +70,11 @@ append-requires-2 g c =
     let b = c.args.bytes.now in
     let s = c.args.s.now in
     let t = c.grow.new.s in
-    let h₁ = c.in-ok-head.head in
+    let h₁ = c.in_ok-head.head in
     let law = g.S.Storage.lawful s c.requires.held.1.in_order in
-    let small : h.size ≤ 16777216 = omega (arith, c.requires.held.1.size-is, law.sized.most) in
+    let small : h.size ≤ 16777216 = omega (arith, c.requires.held.1.size_is, law.sized.most) in
     let e = same_length h b c.grown_length.result c.grown_length.ensures in
-    let d = c.in-ok-head.ensures in
+    let d = c.in_ok-head.ensures in
     let rs = c.requires.held.0 in
     let x = d.does rs c.requires.held.1 in
     record {
@@ -93,10 +93,10 @@ returns g c =
     let t = c.grow.new.s in
     let v = c.append-2.new.s in
     let r = c.append-2.result in
-    let h₁ = c.in-ok-head.head in
+    let h₁ = c.in_ok-head.head in
     let short : h.header.ring < need h.used b = omega arith in
     let e = same_length h b c.grown_length.result c.grown_length.ensures in
-    let d = c.in-ok-head.ensures in
+    let d = c.in_ok-head.ensures in
     let grew : (rs : List (List ℕ)) → Held h rs (m s) → OnGrow {G = Unit {0}} rs (longer h.header h.used b) h (m s) (m t) (Ok h₁) = λ rs held. subst (λ (n : ℕ). OnGrow {G = Unit {0}} rs n h (m s) (m t) (Ok h₁)) e (d.does rs held) in
     let y = grew c.requires.held.0 c.requires.held.1 in
     let grow-calls = subst (λ (n : ℕ). Asked did (GrowCall h.header n) {A = Unit {0}} (copies (carried 16 h.header h.used) + 3) (Ok tt) s t) e d.calls in

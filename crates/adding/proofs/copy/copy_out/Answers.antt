@@ -9,8 +9,8 @@ use Rattle.adding.proofs.copy.copy_out.Goals as goal
 pub loop-done-init : goal.loop-done-init
 loop-done-init g c = copied_none g.S.Storage.means g.S.Storage.did c.args.ring c.args.n c.args.s.now c.requires.in_order
 
-pub copy-piece-requires : goal.copy-piece-requires
-copy-piece-requires g c = record {
+pub copy_piece-requires : goal.copy_piece-requires
+copy_piece-requires g c = record {
   in_order = c.loop-done.invariant.order;
   few = omega (arith, c.min-k.ensures);
   source = omega (arith, c.min-k.ensures, c.requires.source);
@@ -19,23 +19,23 @@ copy-piece-requires g c = record {
 
 pub loop-done-preserved : goal.loop-done-preserved
 loop-done-preserved g c =
-    let d = c.in-ok-copy-piece.ensures in
-    copied_step g.S.Storage.means g.S.Storage.did c.args.ring c.args.n c.loop-done.done c.min-k.result c.args.s.now c.loop-done.s c.copy-piece.new.s
+    let d = c.in_ok-copy_piece.ensures in
+    copied_step g.S.Storage.means g.S.Storage.did c.args.ring c.args.n c.loop-done.done c.min-k.result c.args.s.now c.loop-done.s c.copy_piece.new.s
     c.loop-done.invariant c.requires.source (omega (arith, c.requires.target, (g.S.Storage.lawful c.args.s.now c.requires.in_order).long)) c.loop-done-test.true c.min-k.ensures
     d.in_order d.does.0 d.does.1 d.calls
 
-pub returns-in-err-copy-piece : goal.returns-in-err-copy-piece
-returns-in-err-copy-piece g c =
+pub returns-in_err-copy_piece : goal.returns-in_err-copy_piece
+returns-in_err-copy_piece g c =
     let means = g.S.Storage.means in
     let did = g.S.Storage.did in
     let s = c.args.s.now in
     let t = c.loop-done.s in
-    let u = c.copy-piece.new.s in
+    let u = c.copy_piece.new.s in
     let i = c.loop-done.invariant in
-    let f = c.in-err-copy-piece.field-0.0 in
-    let d = c.in-err-copy-piece.ensures in
+    let f = c.in_err-copy_piece.field-0.0 in
+    let d = c.in_err-copy_piece.ensures in
     let fits : c.args.ring + c.args.n ≤ length (means s).visible = omega (arith, c.requires.target, (g.S.Storage.lawful s c.requires.in_order).long) in
-    let p = err_from_is_err_and c.from-residual.result c.from-residual.ensures.1 in
+    let p = err_from_is_err_and c.from_residual.result c.from_residual.ensures.1 in
     rw (p.1, p.2) (record {
       in_order = d.in_order;
       does = copied_cut means did c.args.ring c.args.n c.loop-done.done c.min-k.result s t u i c.requires.source fits c.loop-done-test.true c.min-k.ensures d.does;
@@ -55,5 +55,5 @@ returns g c =
       calls = subst (λ (k : ℕ). Asked g.S.Storage.did (CopyCall c.args.ring) {A = Unit {0}} (copies k) (Ok tt) s t) all i.calls;
     }
 
-pub overflow-add-ring : goal.overflow-add-ring
-overflow-add-ring g c = omega (arith, c.requires.target, (g.S.Storage.lawful c.args.s.now c.requires.in_order).sized.most)
+pub overflow_add-ring : goal.overflow_add-ring
+overflow_add-ring g c = omega (arith, c.requires.target, (g.S.Storage.lawful c.args.s.now c.requires.in_order).sized.most)

@@ -8,22 +8,22 @@ use Rattle.adding.proofs.Going.{lost_cut}
 use Rattle.adding.proofs.Copying.{piece_copied}
 use Rattle.adding.proofs.copy.copy_through.Goals as goal
 
-pub write-inside-requires : goal.write-inside-requires
-write-inside-requires g c =
-    let d = c.in-ok-read-inside.ensures in
+pub write_inside-requires : goal.write_inside-requires
+write_inside-requires g c =
+    let d = c.in_ok-read_inside.ensures in
     record { in_order = d.in_order; fits = omega (arith, c.requires.target, d.does.served.size) }
 
-pub returns-in-err-read-inside : goal.returns-in-err-read-inside
-returns-in-err-read-inside g c =
+pub returns-in_err-read_inside : goal.returns-in_err-read_inside
+returns-in_err-read_inside g c =
     let m = g.S.Storage.means in
     let did = g.S.Storage.did in
     let s = c.args.s.now in
     let t = c.read_inside.new.s in
     let old = c.args.buf.now in
     let to = c.args.to in
-    let f = c.in-err-read-inside.field-0.0 in
-    let d = c.in-err-read-inside.ensures in
-    let p = err_from_is_err_and c.from-residual.result c.from-residual.ensures.1 in
+    let f = c.in_err-read_inside.field-0.0 in
+    let d = c.in_err-read_inside.ensures in
+    let p = err_from_is_err_and c.from_residual.result c.from_residual.ensures.1 in
     rw (p.1, p.2) (record {
       in_order = d.in_order;
       does = lost_cut (Before to) (m s) (m t) (lost_read c.args.from old c.read_inside.new.buf (m s) (m t) d.does);
@@ -41,7 +41,7 @@ returns g c =
     let buf = c.read_inside.new.buf in
     let to = c.args.to in
     let r = c.write_inside.result in
-    let d = c.in-ok-read-inside.ensures in
+    let d = c.in_ok-read_inside.ensures in
     let long : length buf ≡ length old = omega arith in
     record {
       in_order = c.write_inside.ensures.in_order;

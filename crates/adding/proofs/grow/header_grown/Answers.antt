@@ -3,8 +3,8 @@ use Rattle.std.proofs.lemmas.Bool.{cases_lt}
 use Rattle.adding.proofs.Ends.{head_sound, head_most}
 use Rattle.adding.proofs.grow.header_grown.Goals as goal
 
-pub overflow-add-last : goal.overflow-add-last
-overflow-add-last c =
+pub overflow_add-last : goal.overflow_add-last
+overflow_add-last c =
     let h = c.args.head in
     elim (cases_lt 0 h.header.count) [
       | inl some ↦ omega (arith, head_most h, (head_sound h).to some)

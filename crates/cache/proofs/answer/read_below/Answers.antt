@@ -7,12 +7,12 @@ use Rattle.cache.proofs.answer.read_below.Goals as goal
 pub lower-requires : goal.lower-requires
 lower-requires g c =
     let m = g.S.Storage.means in
-    read_inside (told g.Outside.Chain.links g.S.Gone.Chain.links) g.S.Storage.name (m c.args.below.now) (m c.read.new.self) c.args.offset c.args.buf.now c.read.new.buf c.read.result c.requires.fits c.read.ensures.does
+    read_inside (told g.S.Outside.Chain.links g.S.Gone.Chain.links) g.S.Storage.name (m c.args.below.now) (m c.read.new.self) c.args.offset c.args.buf.now c.read.new.buf c.read.result c.requires.fits c.read.ensures.does
 
 pub returns : goal.returns
 returns g c =
     let m = g.S.Storage.means in
-    let tells = told g.Outside.Chain.links g.S.Gone.Chain.links in
+    let tells = told g.S.Outside.Chain.links g.S.Gone.Chain.links in
     let o = c.args.offset in
     let old = c.args.buf.now in
     let new = c.read.new.buf in

@@ -7,12 +7,12 @@ use Rattle.cache.proofs.answer.sync_below.Goals as goal
 pub lower-requires : goal.lower-requires
 lower-requires g c =
     let m = g.S.Storage.means in
-    sync_inside (told g.Outside.Chain.links g.S.Gone.Chain.links) g.S.Storage.name (m c.args.below.now) (m c.sync.new.self) c.sync.result c.sync.ensures.does
+    sync_inside (told g.S.Outside.Chain.links g.S.Gone.Chain.links) g.S.Storage.name (m c.args.below.now) (m c.sync.new.self) c.sync.result c.sync.ensures.does
 
 pub returns : goal.returns
 returns g c =
     let m = g.S.Storage.means in
-    let tells = told g.Outside.Chain.links g.S.Gone.Chain.links in
+    let tells = told g.S.Outside.Chain.links g.S.Gone.Chain.links in
     let m₀ = m c.args.below.now in
     let m₁ = m c.sync.new.self in
     record {

@@ -7,12 +7,12 @@ use Rattle.cache.proofs.answer.write_below.Goals as goal
 pub lower-requires : goal.lower-requires
 lower-requires g c =
     let m = g.S.Storage.means in
-    write_inside (told g.Outside.Chain.links g.S.Gone.Chain.links) g.S.Storage.name (m c.args.below.now) (m c.write.new.self) c.args.offset c.args.bytes.now c.write.result c.requires.fits c.write.ensures.does
+    write_inside (told g.S.Outside.Chain.links g.S.Gone.Chain.links) g.S.Storage.name (m c.args.below.now) (m c.write.new.self) c.args.offset c.args.bytes.now c.write.result c.requires.fits c.write.ensures.does
 
 pub returns : goal.returns
 returns g c =
     let m = g.S.Storage.means in
-    let tells = told g.Outside.Chain.links g.S.Gone.Chain.links in
+    let tells = told g.S.Outside.Chain.links g.S.Gone.Chain.links in
     let o = c.args.offset in
     let b = c.args.bytes.now in
     let m₀ = m c.args.below.now in

@@ -5,18 +5,23 @@ use Rattle.ring.proofs.Soundness.{empty_sound}
 use Rattle.ring.proofs.Removing.{clear_law}
 use Rattle.card.proofs.erase.erase.Goals as goal
 
-pub invariant-of-result : goal.invariant-of-result
-invariant-of-result g c =
+pub invariant_of-result : goal.invariant_of-result
+invariant_of-result g c =
     let law = g.S.Storage.lawful c.args.s.now c.requires in
-    let same : c.size.result ≡ (g.S.Storage.means c.args.s.now).size = c.size.ensures ∙ c.in-ok-put-header.ensures.does.served.size in
-    (empty_sound 16 c.size.result (omega (arith, law.sized.least)) (omega (arith, law.sized.most)), (omega arith, (omega arith, (λ _. refl, tt))))
+    let same : c.size.result ≡ (g.S.Storage.means c.args.s.now).size = c.size.ensures ∙ c.in_ok-put_header.ensures.does.served.size in
+    record {
+      sound = empty_sound 16 c.size.result (omega (arith, law.sized.least)) (omega (arith, law.sized.most));
+      room = omega arith;
+      least = omega arith;
+      bare = λ _. refl;
+    }
 
 pub returns : goal.returns
 unfolding cleared
 returns g c =
     let m = g.S.Storage.means c.args.s.now in
     let law = g.S.Storage.lawful c.args.s.now c.requires in
-    let d = c.in-ok-put-header.ensures in
+    let d = c.in_ok-put_header.ensures in
     let reads : reading_of (cleared m.visible) ≡ Records [] = clear_law m.visible (omega (arith, law.long, law.sized.least)) (omega (arith, law.long, law.sized.most)) in
     record {
       in_order = d.in_order;

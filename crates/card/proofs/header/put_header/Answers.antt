@@ -9,21 +9,21 @@ use Rattle.ring.proofs.HeaderWrites.{length_cell}
 use Rattle.card.proofs.Putting.{put_ended, put_synced}
 use Rattle.card.proofs.header.put_header.Goals as goal
 
-pub write-inside-requires : goal.write-inside-requires
-write-inside-requires g c =
+pub write_inside-requires : goal.write_inside-requires
+write_inside-requires g c =
     record { in_order = c.requires; fits = omega (arith, (g.S.Storage.lawful c.args.s.now c.requires).sized.least, length_cell c.args.header, ap length c.cell.ensures) }
 
-pub returns-in-err-write-inside : goal.returns-in-err-write-inside
-returns-in-err-write-inside g c =
+pub returns-in_err-write_inside : goal.returns-in_err-write_inside
+returns-in_err-write_inside g c =
     let m = g.S.Storage.means in
     let s = c.args.s.now in
     let t = c.write_inside.new.s in
     let x = c.cell.result in
     let e = c.cell.ensures in
-    let d = c.in-err-write-inside.ensures in
+    let d = c.in_err-write_inside.ensures in
     let long : length x ≡ 16 = ap length e ∙ length_cell c.args.header in
-    let p = err_from_is_err_and c.from-residual.result c.from-residual.ensures.1 in
-    let f = c.in-err-write-inside.field-0.0 in
+    let p = err_from_is_err_and c.from_residual.result c.from_residual.ensures.1 in
+    let f = c.in_err-write_inside.field-0.0 in
     rw (p.1, p.2) (record {
       in_order = d.in_order;
       does = subst (λ (y : List ℕ). OnPut y (m s) (m t) (Err f)) e (put_ended x (m s) (m t) (g.S.Storage.lawful s c.requires) long d.does);
@@ -39,7 +39,7 @@ returns g c =
     let u = c.sync_inside.new.s in
     let x = c.cell.result in
     let e = c.cell.ensures in
-    let d = c.in-ok-write-inside.ensures in
+    let d = c.in_ok-write_inside.ensures in
     let r = c.sync_inside.result in
     let long : length x ≡ 16 = ap length e ∙ length_cell c.args.header in
     record {

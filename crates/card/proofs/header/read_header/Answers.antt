@@ -10,17 +10,17 @@ use Rattle.ring.proofs.Numbers.{header_same}
 use Rattle.card.specs.Reads.{ReadsUpTo}
 use Rattle.card.proofs.header.read_header.Goals as goal
 
-pub returns-in-err-read-inside : goal.returns-in-err-read-inside
-returns-in-err-read-inside g c =
+pub returns-in_err-read_inside : goal.returns-in_err-read_inside
+returns-in_err-read_inside g c =
     let m = g.S.Storage.means in
     let s = c.args.s.now in
     let t = c.read_inside.new.s in
-    let d = c.in-err-read-inside.ensures in
-    let p = err_from_is_err_and c.from-residual.result c.from-residual.ensures.1 in
+    let d = c.in_err-read_inside.ensures in
+    let p = err_from_is_err_and c.from_residual.result c.from_residual.ensures.1 in
     rw (p.1, p.2) (record {
       in_order = d.in_order;
       does = lost_read 0 _ c.read_inside.new.buf (m s) (m t) d.does;
-      calls = asked_one g.S.Storage.did (ReadsUpTo 16) {A = Header} (Reading 0 16) (Err c.in-err-read-inside.field-0.0) s t (omega arith) d.did;
+      calls = asked_one g.S.Storage.did (ReadsUpTo 16) {A = Header} (Reading 0 16) (Err c.in_err-read_inside.field-0.0) s t (omega arith) d.did;
     })
 
 pub returns : goal.returns
@@ -29,7 +29,7 @@ returns g c =
     let s = c.args.s.now in
     let t = c.read_inside.new.s in
     let cell = c.read_inside.new.buf in
-    let d = c.in-ok-read-inside.ensures in
+    let d = c.in_ok-read_inside.ensures in
     let b = (m s).visible in
     let long : length cell ≡ 16 = omega arith in
     record {

@@ -11,11 +11,11 @@ use Rattle.card.specs.Reads.{ReadsUpTo}
 use Rattle.card.proofs.Pieces.{one_piece, around}
 use Rattle.card.proofs.reads.read_along.Goals as goal
 
-pub returns-then-is-empty : goal.returns-then-is-empty
-returns-then-is-empty g c =
+pub returns-then-is_empty : goal.returns-then-is_empty
+returns-then-is_empty g c =
     let s = c.args.s.now in
     let buf = c.args.buf.now in
-    let none : length buf ≡ 0 = eqb-true (length buf) 0 (sym c.if-is-empty.ensures) in
+    let none : length buf ≡ 0 = eqb-true (length buf) 0 (sym c.if-is_empty.ensures) in
     let f = along 16 c.args.ring (g.S.Storage.means s).visible in
     record {
       in_order = c.requires.in_order;
@@ -27,11 +27,11 @@ pub returns-in-Ok : goal.returns-in-Ok
 returns-in-Ok g c =
     let m = g.S.Storage.means in
     let s = c.args.s.now in
-    let t = c.read-two.new.s in
+    let t = c.read_two.new.s in
     let d = c.in-Ok.ensures in
     record {
       in_order = d.in_order;
-      does = around g.row.S-Gone.Denot c.args.ring c.args.at c.args.buf.now c.read-two.new.buf (m s) (m t) (g.S.Storage.lawful s c.requires.in_order) c.requires.ring c.requires.to (omega arith) c.requires.once d.does;
+      does = around g.row.S-Gone.Denot c.args.ring c.args.at c.args.buf.now c.read_two.new.buf (m s) (m t) (g.S.Storage.lawful s c.requires.in_order) c.requires.ring c.requires.to (omega arith) c.requires.once d.does;
       calls = d.calls;
     }
 

@@ -6,10 +6,10 @@ use Rattle.card.proofs.reads.read_number.Goals as goal
 
 pub returns : goal.returns
 returns g c =
-    let d = c.in-ok-read-along.ensures in
+    let d = c.in_ok-read_along.ensures in
     let f = along 16 c.args.ring (g.S.Storage.means c.args.s.now).visible in
     record {
       in_order = d.in_order;
-      does = (d.does.0, number_read f c.args.at c.from-be-bytes.result c.read-along.new.buf d.does.1 c.from-be-bytes.ensures);
+      does = (d.does.0, number_read f c.args.at c.from_be_bytes.result c.read_along.new.buf d.does.1 c.from_be_bytes.ensures);
       calls = d.calls;
     }

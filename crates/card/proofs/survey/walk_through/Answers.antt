@@ -9,8 +9,8 @@ use Rattle.card.proofs.survey.walk_through.Goals as goal
 pub loop-walk-init : goal.loop-walk-init
 loop-walk-init g c = reach_none g.S.Storage.means g.S.Storage.did c.args.s.now c.args.walk c.requires.in_order
 
-pub pass-next-requires : goal.pass-next-requires
-pass-next-requires g c = record {
+pub pass_next-requires : goal.pass_next-requires
+pass_next-requires g c = record {
   in_order = c.loop-walk.invariant.order;
   sized = omega (arith, c.loop-walk.invariant.size_stays, c.loop-walk.invariant.still.size, c.requires.sized);
   more = c.loop-walk-test.true;
@@ -18,25 +18,25 @@ pass-next-requires g c = record {
 
 pub loop-walk-preserved : goal.loop-walk-preserved
 loop-walk-preserved g c =
-    let d = c.in-ok-pass-next.ensures in
-    reach_more g.S.Storage.means g.S.Storage.did c.args.s.now c.loop-walk.s c.pass-next.new.s c.args.walk c.loop-walk.walk c.pass-next.new.walk c.loop-walk.invariant
+    let d = c.in_ok-pass_next.ensures in
+    reach_more g.S.Storage.means g.S.Storage.did c.args.s.now c.loop-walk.s c.pass_next.new.s c.args.walk c.loop-walk.walk c.pass_next.new.walk c.loop-walk.invariant
     d.in_order d.does.0 d.does.1 d.calls
 
-pub returns-in-err-pass-next : goal.returns-in-err-pass-next
-returns-in-err-pass-next g c =
+pub returns-in_err-pass_next : goal.returns-in_err-pass_next
+returns-in_err-pass_next g c =
     let means = g.S.Storage.means in
     let did = g.S.Storage.did in
     let s = c.args.s.now in
     let t = c.loop-walk.s in
-    let u = c.pass-next.new.s in
+    let u = c.pass_next.new.s in
     let k = c.args.walk in
-    let e = c.in-err-pass-next.field-0.0 in
-    let d = c.in-err-pass-next.ensures in
-    let p = err_from_is_err_and c.from-residual.result c.from-residual.ensures.1 in
+    let e = c.in_err-pass_next.field-0.0 in
+    let d = c.in_err-pass_next.ensures in
+    let p = err_from_is_err_and c.from_residual.result c.from_residual.ensures.1 in
     rw (p.1, p.2) (record {
       in_order = d.in_order;
-      does = reach_declined means did s t u k c.loop-walk.walk c.pass-next.new.walk c.loop-walk.invariant e d.does;
-      calls = reach_calls means did s t u k c.loop-walk.walk c.pass-next.new.walk c.loop-walk.invariant e d.calls;
+      does = reach_declined means did s t u k c.loop-walk.walk c.pass_next.new.walk c.loop-walk.invariant e d.does;
+      calls = reach_calls means did s t u k c.loop-walk.walk c.pass_next.new.walk c.loop-walk.invariant e d.calls;
     })
 
 pub returns : goal.returns

@@ -16,7 +16,7 @@ returns g c =
     let u = c.lift.ensures in
     let fits : o + length old ≤ p.size = search rules in
     let long : length new ≡ length old = search rules in
-    let y = on_read (told g.Outside.Chain.links g.S.Gone.Chain.links) g.S.Storage.name g.S.Gone.Chain.links p.base p.size (m p.below) (m c.read.new.self) l c.requires c.read.ensures.in_order o old new x c.lift.result fits long c.read.ensures.does u in
+    let y = on_read (told g.S.Outside.Chain.links g.S.Gone.Chain.links) g.S.Storage.name g.S.Gone.Chain.links p.base p.size (m p.below) (m c.read.new.self) l c.requires c.read.ensures.in_order o old new x c.lift.result fits long c.read.ensures.does u in
     record {
       in_order = y.in_order;
       does = y.does;

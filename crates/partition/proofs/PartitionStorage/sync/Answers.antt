@@ -11,7 +11,7 @@ returns g c =
     let x = c.sync.result in
     let l = g.S.Storage.lawful p.below c.requires.below in
     let u = c.lift.ensures in
-    let y = on_sync (told g.Refusal.Outside.Chain.links g.S.Gone.Chain.links) g.S.Storage.name g.S.Gone.Chain.links p.base p.size (m p.below) (m c.sync.new.self) l c.requires c.sync.ensures.in_order x c.lift.result c.sync.ensures.does u in
+    let y = on_sync (told g.S.Outside.Chain.links g.S.Gone.Chain.links) g.S.Storage.name g.S.Gone.Chain.links p.base p.size (m p.below) (m c.sync.new.self) l c.requires c.sync.ensures.in_order x c.lift.result c.sync.ensures.does u in
     record {
       in_order = y.in_order;
       does = y.does;

@@ -14,7 +14,7 @@ returns g c =
     let l = g.S.Storage.lawful p.below c.requires.below in
     let u = c.lift.ensures in
     let fits : o + length b ≤ p.size = search rules in
-    let y = on_write (told g.Refusal.Outside.Chain.links g.S.Gone.Chain.links) g.S.Storage.name g.S.Gone.Chain.links p.base p.size (m p.below) (m c.write.new.self) l c.requires c.write.ensures.in_order o b x c.lift.result fits c.write.ensures.does u in
+    let y = on_write (told g.S.Outside.Chain.links g.S.Gone.Chain.links) g.S.Storage.name g.S.Gone.Chain.links p.base p.size (m p.below) (m c.write.new.self) l c.requires c.write.ensures.in_order o b x c.lift.result fits c.write.ensures.does u in
     record {
       in_order = y.in_order;
       does = y.does;

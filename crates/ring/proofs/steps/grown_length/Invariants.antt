@@ -4,4 +4,4 @@ use Rattle.ring.proofs.steps.grown_length.Given as goal
 
 -- the doublings that are left decide it
 abbrev pub invariant-loop-i : goal.invariant-loop-i
-invariant-loop-i l = (l.length < 2 ^ 32 * 2 ^ l.-i) × (doubled_to 12 l.ring l.need ≡ doubled_to (12 - l.-i) l.length l.need)
+invariant-loop-i l = (l.length < 2 ^ 32 * 2 ^ l._i) × (doubled_to 12 l.ring l.need ≡ doubled_to (12 - l._i) l.length l.need)

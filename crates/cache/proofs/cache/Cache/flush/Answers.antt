@@ -28,13 +28,13 @@ returns-in-Err g c =
     }
 
 -- the line of the lowest went down, and is clean now
-went_down : (g : _) (c : goal.In-default-evict g) → c.evict.new.self.dir ≡ set c.loop-h.self.dir (c.in-Some.h % c.loop-h.self.lines) (Clean c.in-Some.h)
+went_down : (g : _) (c : goal.In_default-evict g) → c.evict.new.self.dir ≡ set c.loop-h.self.dir (c.in-Some.h % c.loop-h.self.lines) (Clean c.in-Some.h)
 went_down g c =
     let w = c.loop-h.self in
     let i = c.loop-h.invariant in
     let h = c.in-Some.h in
     let p = low_home w.dir w.table.bytes w.lines w.gone (g.S.Storage.means w.below) h i.0 i.1 c.in-Some.ensures in
-    let d = subst (λ (l : Line). EvictsLine g.S.Storage.did l w (h % w.lines) (Ok tt) c.evict.new.self) p.2 c.in-default-evict.ensures.did in
+    let d = subst (λ (l : Line). EvictsLine g.S.Storage.did l w (h % w.lines) (Ok tt) c.evict.new.self) p.2 c.in_default-evict.ensures.did in
     ap (λ (x : Cache _). x.dir) d.1
 
 pub loop-h-smaller : goal.loop-h-smaller
@@ -46,7 +46,7 @@ loop-h-smaller g c =
     let p = low_home w.dir w.table.bytes w.lines w.gone (g.S.Storage.means w.below) h i.0 i.1 c.in-Some.ensures in
     let less = waiting_less w.dir (h % w.lines) h h w.lines p.1 (omega (arith, p.1, i.0.few_lines, i.0.dir_long)) p.2 in
     let same : waiting z.dir z.lines ≡ waiting (set w.dir (h % w.lines) (Clean h)) w.lines =
-    ap (λ (n : ℕ). waiting z.dir n) c.in-default-evict.ensures.does.1.2 ∙ ap (λ (x : _). waiting x w.lines) (went_down g c) in
+    ap (λ (n : ℕ). waiting z.dir n) c.in_default-evict.ensures.does.1.2 ∙ ap (λ (x : _). waiting x w.lines) (went_down g c) in
     omega arith
 
 pub loop-h-preserved : goal.loop-h-preserved
@@ -58,7 +58,7 @@ loop-h-preserved g c =
     let i = c.loop-h.invariant in
     let h = c.in-Some.h in
     let low = c.in-Some.ensures in
-    let d = c.in-default-evict.ensures in
+    let d = c.in_default-evict.ensures in
     let p = low_home w.dir w.table.bytes w.lines w.gone (g.S.Storage.means w.below) h i.0 i.1 low in
     let wide : h % w.lines < length w.dir = omega (arith, p.1, i.0.few_lines, i.0.dir_long) in (
       d.in_order,

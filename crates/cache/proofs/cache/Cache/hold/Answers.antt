@@ -10,7 +10,7 @@ returns-in-Err-fetch g c =
     let f = means_of g.S.Storage.means in
     let s = c.args.self.now in
     let e = c.evict.new.self in
-    let a = c.in-default.ensures in
+    let a = c.in_default.ensures in
     let b = c.in-Err-fetch.ensures in
     let missed : held (line s.dir (c.args.s % s.lines)) c.args.s ≡ false = search rules in
     record {
@@ -25,8 +25,8 @@ returns g c =
     let f = means_of g.S.Storage.means in
     let s = c.args.self.now in
     let e = c.evict.new.self in
-    let a = c.in-default.ensures in
-    let b = c.in-default-fetch.ensures in
+    let a = c.in_default.ensures in
+    let b = c.in_default-fetch.ensures in
     let missed : held (line s.dir (c.args.s % s.lines)) c.args.s ≡ false = search rules in
     record {
       in_order = b.in_order;

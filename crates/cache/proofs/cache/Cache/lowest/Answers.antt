@@ -7,7 +7,7 @@ use Rattle.cache.proofs.cache.Cache.lowest.Goals as goal
 pub loop-i-preserved : goal.loop-i-preserved
 loop-i-preserved g c =
     let dir = c.args.self.now.dir in
-    subst (λ (x : Option ℕ). OnLowest dir (c.loop-i.i + 1) x) (sym c.lower-of-best.ensures)
+    subst (λ (x : Option ℕ). OnLowest dir (c.loop-i.i + 1) x) (sym c.lower_of-best.ensures)
     (lowest_more dir c.loop-i.i c.loop-i.best (line dir c.loop-i.i) refl c.loop-i.invariant)
 
 pub returns : goal.returns

@@ -28,7 +28,7 @@ returns-in-Ok g c =
       does = (
         d.does.0,
         (
-          c.copy-out.ensures ∙ held_part e.dir e.table.bytes e.lines m.visible i (at / 512) d.in_order.table_long low home holds fits (at % 512) n c.requires.one
+          c.copy_out.ensures ∙ held_part e.dir e.table.bytes e.lines m.visible i (at / 512) d.in_order.table_long low home holds fits (at % 512) n c.requires.one
               ∙ ap (λ (x : List ℕ). part (at / 512 * 512 + at % 512) n x) d.does.0.visible ∙ ap (λ (x : ℕ). part x n (means_of g.S.Storage.means s).visible) whole,
           lives,
           d.does.1.2,

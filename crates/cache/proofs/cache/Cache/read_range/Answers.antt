@@ -20,7 +20,7 @@ returns-in-Err g c =
     let s = c.args.self.now in
     let d = c.in-Err.ensures in
     let e = evenly o done n (omega arith) h.8 in
-    let lost = still_lost (f s) (f c.loop-done.self) (f c.read-piece.new.self) h.4 d.does in
+    let lost = still_lost (f s) (f c.loop-done.self) (f c.read_piece.new.self) h.4 d.does in
     record {
       in_order = d.in_order;
       does = record { fits = c.requires.fits; ended = lost.ended; stands = lost.stands; zeroed = search rules };
@@ -29,7 +29,7 @@ returns-in-Err g c =
         c.loop-done.self,
         touched_less o done n e (omega arith),
         h.7,
-        subst (λ (x : ℕ). Took g.S.Storage.did g.S.Storage.means c.loop-done.self x (Err c.in-Err.fault) c.read-piece.new.self) (sym (sector_next o done e)) d.did,
+        subst (λ (x : ℕ). Took g.S.Storage.did g.S.Storage.means c.loop-done.self x (Err c.in-Err.fault) c.read_piece.new.self) (sym (sector_next o done e)) d.did,
       );
     }
 
@@ -41,27 +41,27 @@ loop-done-preserved g c =
     let done = c.loop-done.done in
     let n = length c.args.buf.now in
     let s = c.args.self.now in
-    let m = c.in-sector-step.result in
+    let m = c.in_sector-step.result in
     let v = (f s).visible in
-    let d = c.in-default.ensures in
+    let d = c.in_default.ensures in
     let e = evenly o done n (omega arith) h.8 in
-    let is : m ≡ min (512 - (o + done) % 512) (n - done) = c.in-sector-step.ensures ∙ ap (λ (x : ℕ). min (512 - (o + done) % 512) (x - done)) h.3 in
+    let is : m ≡ min (512 - (o + done) % 512) (n - done) = c.in_sector-step.ensures ∙ ap (λ (x : ℕ). min (512 - (o + done) % 512) (x - done)) h.3 in
     let some : 0 < m = omega arith in
     let short : m ≤ 512 - (o + done) % 512 = omega arith in
     let le : done + m ≤ n = omega arith in
-    let long : length c.read-piece.new.out ≡ m = search (rules, places) in
+    let long : length c.read_piece.new.out ≡ m = search (rules, places) in
     let old : length (take (done + m - done) (drop done c.loop-done.buf)) ≡ m = search (rules, places) in
-    let got : c.read-piece.new.out ≡ part (o + done) m v =
+    let got : c.read_piece.new.out ≡ part (o + done) m v =
     d.does.1.0 ∙ ap (λ (x : ℕ). part (o + done) x (f c.loop-done.self).visible) old ∙ ap (λ (x : List ℕ). part (o + done) m x) h.4.visible in (
       d.in_order,
       d.does.1.2,
       le,
       search (rules, places),
-      still_still (f s) (f c.loop-done.self) (f c.read-piece.new.self) h.4 d.does.0,
+      still_still (f s) (f c.loop-done.self) (f c.read_piece.new.self) h.4 d.does.0,
       (λ _. d.does.1.1),
-      take-put_mid done (done + m - done) c.loop-done.buf c.read-piece.new.out (done + m) (omega arith) (omega arith)
-          ∙ ap (λ (x : List ℕ). x ++ c.read-piece.new.out) h.6 ∙ ap (λ (x : List ℕ). part o done v ++ x) got ∙ part_more o done m v,
-      walk_more (ReadStep g.S.Storage.did g.S.Storage.means) s (o / 512) (touched o done) (touched o (done + m)) ((o + done) / 512) c.loop-done.self c.read-piece.new.self
+      take-put_mid done (done + m - done) c.loop-done.buf c.read_piece.new.out (done + m) (omega arith) (omega arith)
+          ∙ ap (λ (x : List ℕ). x ++ c.read_piece.new.out) h.6 ∙ ap (λ (x : List ℕ). part o done v ++ x) got ∙ part_more o done m v,
+      walk_more (ReadStep g.S.Storage.did g.S.Storage.means) s (o / 512) (touched o done) (touched o (done + m)) ((o + done) / 512) c.loop-done.self c.read_piece.new.self
           (touched_more o done m e some short) (sector_next o done e) h.7 d.did,
       ⊎_elim (λ z. inl (subst (λ (k : ℕ). Even o (done + k)) (sym is) z)) (λ z. inr (omega arith)) (even_more o done (n - done) e (omega arith)),
     )

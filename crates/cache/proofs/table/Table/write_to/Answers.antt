@@ -5,8 +5,8 @@ use Rattle.storage.specs.Layers.{lowered}
 use Rattle.cache.specs.Steps.{OnDown}
 use Rattle.cache.proofs.table.Table.write_to.Goals as goal
 
-pub write-below-requires : goal.write-below-requires
-write-below-requires g c = record { in_order = c.requires.in_order; fits = search (rules, places) }
+pub write_below-requires : goal.write_below-requires
+write_below-requires g c = record { in_order = c.requires.in_order; fits = search (rules, places) }
 
 pub returns : goal.returns
 returns g c =
@@ -14,10 +14,10 @@ returns g c =
     let i = c.args.i * 512 in
     let o = c.args.s * 512 in
     let t = c.args.self.now.bytes in
-    let r = c.write-below.result in
+    let r = c.write_below.result in
     let e : i + 512 - i ≡ 512 = omega arith in
     record {
-      in_order = c.write-below.ensures.in_order;
-      does = subst (λ (z : ℕ). OnDown o (take z (drop i t)) (m c.args.below.now) (m c.write-below.new.below) r) e c.write-below.ensures.does;
-      did = subst (λ (z : ℕ). g.S.Storage.did c.args.below.now (Writing o (take z (drop i t))) (lowered r) c.write-below.new.below) e c.write-below.ensures.did;
+      in_order = c.write_below.ensures.in_order;
+      does = subst (λ (z : ℕ). OnDown o (take z (drop i t)) (m c.args.below.now) (m c.write_below.new.below) r) e c.write_below.ensures.does;
+      did = subst (λ (z : ℕ). g.S.Storage.did c.args.below.now (Writing o (take z (drop i t))) (lowered r) c.write_below.new.below) e c.write_below.ensures.did;
     }

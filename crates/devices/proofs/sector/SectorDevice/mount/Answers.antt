@@ -11,7 +11,7 @@ use Rattle.devices.proofs.sector.SectorDevice.mount.Goals as goal
 pub returns : goal.returns
 returns c =
     let d = c.args.parts.durable.now in
-    let h : Held = record { durable = d; visible = c.copy-from-slice.new.self; torn = replicate (length d) false; life = Endless; gone = false } in
+    let h : Held = record { durable = d; visible = c.copy_from_slice.new.self; torn = replicate (length d) false; life = Endless; gone = false } in
     let z : SizeRule (length d) = search rules in
     let q : h ≡ fresh d = same_held refl (search rules) refl refl refl in (
       record { sized = z; visible = search rules },

@@ -41,12 +41,12 @@ put-requires c =
     let o = c.args.offset in
     let b = c.args.bytes.now in
     let done = c.loop-done.done in
-    let m = c.in-sector-step.result in
+    let m = c.in_sector-step.result in
     let v = c.args.self.now.copies.visible.now in
     let front : length (take done b) ≡ done = length-take done b ∙ omega arith in
     let all = ap length c.loop-done.invariant.2 ∙ length_laid o (take done b) v (omega (arith, c.requires.fits)) in
     let one : length (take (done + m - done) (drop done b)) ≤ m = omega (arith, length-take (done + m - done) (drop done b)) in
-    omega (arith, c.in-sector-step.ensures, c.requires.fits)
+    omega (arith, c.in_sector-step.ensures, c.requires.fits)
 
 pub loop-done-preserved : goal.loop-done-preserved
 loop-done-preserved c =
@@ -54,16 +54,16 @@ loop-done-preserved c =
     let o = c.args.offset in
     let b = c.args.bytes.now in
     let done = c.loop-done.done in
-    let m = c.in-sector-step.result in
+    let m = c.in_sector-step.result in
     let v = c.args.self.now.copies.visible.now in
     let life = c.args.self.now.power.life in
     let e = evenly o done (length b) (omega arith) i.6 in
-    let some : 0 < m = omega (arith, c.in-sector-step.ensures) in
-    let short : m ≤ 512 - (o + done) % 512 = omega (arith, c.in-sector-step.ensures) in
-    let le : done + m ≤ length b = omega (arith, c.in-sector-step.ensures) in
+    let some : 0 < m = omega (arith, c.in_sector-step.ensures) in
+    let short : m ≤ 512 - (o + done) % 512 = omega (arith, c.in_sector-step.ensures) in
+    let le : done + m ≤ length b = omega (arith, c.in_sector-step.ensures) in
     let one : enough 1 c.loop-done.self.power.life ≡ true = search rules in
     let ends : (Even o (done + min (512 - (o + done) % 512) (length b - done))) ⊎ (done + min (512 - (o + done) % 512) (length b - done) ≡ done + (length b - done)) → Even o (done + m) ⊎ (done + m ≡ length b) =
-    λ y. ⊎_elim (λ z. inl (subst (λ (k : ℕ). Even o (done + k)) (sym c.in-sector-step.ensures) z)) (λ z. inr (omega (arith, c.in-sector-step.ensures))) y in
+    λ y. ⊎_elim (λ z. inl (subst (λ (k : ℕ). Even o (done + k)) (sym c.in_sector-step.ensures) z)) (λ z. inr (omega (arith, c.in_sector-step.ensures))) y in
     let x = sector_more o done m life c.loop-done.self.power.life c.serve.new.self.life e some short i.4 i.5 one (c.serve.ensures.life.0 (search rules)) in (
       le,
       c.put.ensures.durable ∙ i.1,

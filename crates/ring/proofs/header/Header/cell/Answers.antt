@@ -4,4 +4,4 @@ use Rattle.ring.proofs.header.Header.cell.Goals as goal
 
 pub returns : goal.returns
 unfolding four
-returns c = cell_from c.args.self c.to-be-bytes.ensures c.to-be-bytes-2.ensures c.to-be-bytes-3.ensures c.to-be-bytes-4.ensures
+returns c = cell_from c.args.self c.to_be_bytes.ensures c.to_be_bytes-2.ensures c.to_be_bytes-3.ensures c.to_be_bytes-4.ensures
