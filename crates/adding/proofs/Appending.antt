@@ -1,12 +1,12 @@
 -- A record added where the ring has room, from the element and the header.
-use Rattle.std.proofs.Common.{◌≡◌, ℕ, ◌+◌, ◌-◌, ◌*◌, ◌<◌, ◌≤◌, true, false, ◌⊎◌, List, [], ◌∷◌, ◌++◌, length, get_or, Ok, Err, Result, sym, refl, ap, ◌∙◌, subst, inl, inr, arith}
+use Rattle.std.proofs.Common.{◌≡◌, ℕ, ◌+◌, ◌≤◌, true, List, [], ◌∷◌, ◌++◌, length, get_or, sym, ap, ◌∙◌, subst, inl, inr, arith}
 use Rattle.std.proofs.lemmas.Bool.{both_ways}
 use Rattle.storage.specs.Cells.{laid}
 use Rattle.storage.specs.Meaning.{Meaning, Lawful}
 use Rattle.storage.specs.Stores.{StoreDone}
 use Rattle.ring.specs.declared.head.Head.{Head}
 use Rattle.ring.specs.declared.header.Header.{Header}
-use Rattle.ring.specs.Ring.{used, taken, place}
+use Rattle.ring.specs.Ring.{used}
 use Rattle.ring.specs.Headers.{header_of, cell, sound}
 use Rattle.ring.specs.Reading.{Records, reading_of}
 use Rattle.ring.specs.Steps.{end_position, end_place, start, added_header, with_element, added, Outside}
@@ -16,11 +16,11 @@ use Rattle.ring.proofs.Soundness.{means_sound}
 use Rattle.ring.proofs.Standing.{CardStands, card_stands, card_reads}
 use Rattle.ring.proofs.Keeping.{free_law}
 use Rattle.ring.proofs.Adding.{add_law, header_added, with_element_stands, length_with_element}
-use Rattle.card.specs.Headers.{PutEnded, OnPut}
+use Rattle.card.specs.Headers.{PutEnded}
 use Rattle.card.specs.Held.{Held, Done, Fell}
 use Rattle.adding.specs.Writes.{Cut}
-use Rattle.adding.specs.Elements.{Placed, OnElement}
-use Rattle.adding.proofs.Ends.{head_sound, head_start, head_least, head_most, end_in}
+use Rattle.adding.specs.Elements.{Placed}
+use Rattle.adding.proofs.Ends.{head_sound, head_start, end_in}
 
 -- the head with one record more keeps the bounds
 pub added_sound : (h : Head) (n : ℕ) → h.size ≤ 16777216 → h.used + (4 + n) ≤ h.header.ring →

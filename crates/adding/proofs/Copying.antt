@@ -1,10 +1,10 @@
 -- Bytes copied behind the ring, piece by piece.
-use Rattle.std.proofs.Common.{◌≡◌, ℕ, ◌+◌, ◌-◌, ◌*◌, ◌/◌, ◌<◌, ◌≤◌, min, ◌⊎◌, List, ◌++◌, length, get_or, take, drop, Ok, Err, Result, sym, refl, ap, ◌∙◌, subst, inl, inr, arith, length-drop, length-take}
+use Rattle.std.proofs.Common.{◌≡◌, ℕ, ◌+◌, ◌-◌, ◌*◌, ◌/◌, ◌<◌, ◌≤◌, min, ◌⊎◌, List, ◌++◌, length, take, drop, Ok, Err, Result, sym, refl, ap, ◌∙◌, inl, inr, arith}
 use Rattle.std.proofs.lemmas.List.{drop-drop}
 use Rattle.std.proofs.lemmas.Bool.{cases_lt}
 use Rattle.storage.specs.Cells.{laid, part, length_part}
 use Rattle.storage.specs.Refusals.{Answer}
-use Rattle.storage.specs.Meaning.{Meaning, Lawful}
+use Rattle.storage.specs.Meaning.{Meaning}
 use Rattle.storage.specs.Calls.{Call, ReadDone, Reading, Writing, Syncing}
 use Rattle.storage.specs.Inside.{OnWriteInside}
 use Rattle.storage.specs.Traces.{Asked}

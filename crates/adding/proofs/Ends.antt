@@ -1,10 +1,10 @@
 -- The bounds of a head, and the positions behind its last element.
-use Rattle.std.proofs.Common.{◌≡◌, ℕ, ◌+◌, ◌-◌, ◌<◌, ◌≤◌, ◌⊎◌, sym, ap, ◌∙◌, subst, inl, inr, arith}
+use Rattle.std.proofs.Common.{◌≡◌, ℕ, ◌+◌, ◌<◌, ◌≤◌, ◌∙◌, inl, inr, arith}
 use Rattle.ring.specs.declared.head.Head.{Head}
 use Rattle.ring.specs.Headers.{SoundHeader}
 use Rattle.ring.specs.Ring.{place}
-use Rattle.ring.specs.Steps.{start, end_position, Outside}
-use Rattle.ring.proofs.Places.{place_cases, place_in}
+use Rattle.ring.specs.Steps.{start, end_position}
+use Rattle.ring.proofs.Places.{place_cases}
 use Rattle.ring.proofs.Soundness.{sound_means, sound_least, sound_most}
 use Rattle.ring.proofs.Keeping.{start_cases}
 use Rattle.adding.specs.Writes.{Apart}

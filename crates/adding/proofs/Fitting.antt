@@ -1,8 +1,8 @@
 -- An add that grows the ring first.
-use Rattle.std.proofs.Common.{◌≡◌, ℕ, ◌+◌, ◌<◌, ◌≤◌, true, false, cond, leb, ◌⊎◌, List, [], ◌∷◌, ◌++◌, length, Ok, Err, Result, sym, refl, ap, ◌∙◌, subst, inl, inr, arith}
+use Rattle.std.proofs.Common.{◌≡◌, ℕ, ◌+◌, ◌<◌, ◌≤◌, leb, List, [], ◌∷◌, ◌++◌, Ok, Err, Result, sym, ap, ◌∙◌, subst, inl, inr, arith}
 use Rattle.std.proofs.lemmas.Bool.{both_ways, cond-false, lt-leb}
 use Rattle.storage.specs.Refusals.{Answer}
-use Rattle.storage.specs.Meaning.{Meaning, Lawful}
+use Rattle.storage.specs.Meaning.{Meaning}
 use Rattle.storage.specs.Calls.{Call}
 use Rattle.storage.specs.Traces.{Made, Asked}
 use Rattle.storage.proofs.Traces.{made_as}
@@ -10,7 +10,7 @@ use Rattle.ring.specs.declared.head.Head.{Head}
 use Rattle.ring.specs.declared.header.Header.{Header}
 use Rattle.ring.specs.Steps.{carried, grown_header, grown, largest_ring, added, Grown}
 use Rattle.ring.proofs.RingLengths.{grown_law, largest_law}
-use Rattle.card.specs.Held.{Held, Done, Fell}
+use Rattle.card.specs.Held.{Done, Fell}
 use Rattle.adding.specs.Copies.{copies}
 use Rattle.adding.specs.Grows.{GrowCall}
 use Rattle.adding.specs.Appends.{append_calls, OnAppend}

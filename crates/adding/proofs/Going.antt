@@ -1,8 +1,8 @@
 -- Calls that leave some bytes alone, one after another.
-use Rattle.std.proofs.Common.{◌≡◌, ℕ, ◌+◌, ◌<◌, ◌≤◌, true, false, ◌⊎◌, List, length, get_or, sym, refl, ap, ◌∙◌, subst}
+use Rattle.std.proofs.Common.{ℕ, ◌+◌, ◌<◌, ◌≤◌, ◌⊎◌, List, length, sym, refl, ◌∙◌}
 use Rattle.std.proofs.lemmas.Bool.{both_ways}
-use Rattle.storage.specs.Meaning.{Meaning, Same, Only}
-use Rattle.storage.specs.Calls.{Arrives, WriteDone, WriteEnded, SyncDone, SyncEnded}
+use Rattle.storage.specs.Meaning.{Meaning}
+use Rattle.storage.specs.Calls.{Arrives, WriteDone, WriteEnded, SyncEnded}
 use Rattle.storage.specs.Inside.{Still, Lost}
 use Rattle.storage.proofs.Answering.{same_self, same_trans}
 use Rattle.adding.specs.Writes.{Agrees, Near, Went, Cut}

@@ -1,5 +1,5 @@
 -- A longer ring, from the copy and the header.
-use Rattle.std.proofs.Common.{◌≡◌, ℕ, ◌+◌, ◌-◌, ◌<◌, ◌≤◌, true, ◌⊎◌, List, [], ◌∷◌, length, get_or, Ok, Err, Result, sym, refl, ap, ◌∙◌, subst, inl, inr, arith}
+use Rattle.std.proofs.Common.{◌≡◌, ℕ, ◌+◌, ◌<◌, ◌≤◌, true, List, [], ◌∷◌, length, get_or, Ok, Err, Result, sym, refl, ap, ◌∙◌, subst, inl, inr, arith}
 use Rattle.std.proofs.lemmas.Bool.{both_ways}
 use Rattle.storage.specs.Cells.{laid, part}
 use Rattle.storage.specs.declared.refusal.Refusal.TheVariants.{Gone}
@@ -14,7 +14,7 @@ use Rattle.ring.specs.declared.header.Header.{Header}
 use Rattle.ring.specs.Ring.{used}
 use Rattle.ring.specs.Headers.{header_of, cell, sound, RingLength}
 use Rattle.ring.specs.Reading.{Records, reading_of}
-use Rattle.ring.specs.Steps.{carried, copied, grown_header, grown, end_place}
+use Rattle.ring.specs.Steps.{carried, copied, grown_header, grown}
 use Rattle.ring.proofs.Soundness.{means_sound}
 use Rattle.ring.proofs.Standing.{CardStands, card_stands, card_reads}
 use Rattle.ring.proofs.Keeping.{behind_law}
@@ -22,7 +22,7 @@ use Rattle.ring.proofs.Growing.{carried_cases, grown_last, header_grown, copied_
 use Rattle.card.specs.Headers.{PutEnded}
 use Rattle.card.specs.Held.{Held, Done, Fell}
 use Rattle.adding.specs.Writes.{Went, Cut}
-use Rattle.adding.specs.Copies.{Before, CopyCall, copies}
+use Rattle.adding.specs.Copies.{Before, CopyCall}
 use Rattle.adding.specs.Grows.{GrowCall}
 use Rattle.adding.proofs.Going.{went_cut, sync_cut}
 use Rattle.adding.proofs.Ends.{head_sound, head_least}

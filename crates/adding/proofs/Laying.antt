@@ -1,5 +1,5 @@
 -- Bytes laid along the ring, in one piece and in two.
-use Rattle.std.proofs.Common.{◌≡◌, ℕ, zero, suc, ◌+◌, ◌-◌, ◌<◌, ◌≤◌, leb, ◌⊎◌, List, [], ◌∷◌, ◌++◌, length, take, drop, Ok, Err, Result, sym, refl, ap, ◌∙◌, subst, inl, inr, arith, length-drop, length-take}
+use Rattle.std.proofs.Common.{◌≡◌, ℕ, ◌+◌, ◌-◌, ◌<◌, ◌≤◌, leb, ◌⊎◌, List, [], ◌∷◌, length, take, drop, Ok, Err, Result, sym, ap, ◌∙◌, subst, inl, inr, arith, length-drop, length-take}
 use Rattle.std.proofs.lemmas.Bool.{cond-true, cond-false, le-leb, lt-leb}
 use Rattle.storage.specs.Cells.{laid}
 use Rattle.storage.specs.Meaning.{Meaning}
@@ -9,10 +9,10 @@ use Rattle.storage.specs.Inside.{OnWriteInside}
 use Rattle.storage.specs.Refusals.{Answer}
 use Rattle.storage.specs.Traces.{Made}
 use Rattle.ring.specs.Ring.{place}
-use Rattle.ring.specs.Steps.{laid_along, Outside}
+use Rattle.ring.specs.Steps.{laid_along}
 use Rattle.ring.proofs.Places.{place_cases}
 use Rattle.ring.proofs.Laying.{laid_whole, laid_round, outside_piece}
-use Rattle.adding.specs.Writes.{pieces, Apart, Went, Cut, OnLay}
+use Rattle.adding.specs.Writes.{pieces, Apart, OnLay}
 use Rattle.adding.proofs.Going.{went_went, went_cut, write_went, write_cut}
 
 pub pieces_one : (g p : ℕ) (bytes : List ℕ) → 0 < length bytes → p + length bytes ≤ g → pieces g p bytes ≡ Writing p bytes ∷ []

@@ -1,11 +1,11 @@
 -- An element written in its two parts, and settled.
-use Rattle.std.proofs.Common.{◌≡◌, ℕ, ◌+◌, ◌-◌, ◌<◌, ◌≤◌, true, List, length, Ok, Err, Result, sym, refl, ap, ◌∙◌, subst, add-zero, arith}
-use Rattle.storage.specs.Meaning.{Meaning, Only}
+use Rattle.std.proofs.Common.{◌≡◌, ℕ, ◌+◌, ◌≤◌, List, length, Ok, Err, Result, sym, ap, ◌∙◌, subst, add-zero, arith}
+use Rattle.storage.specs.Meaning.{Meaning}
 use Rattle.storage.specs.Inside.{OnSyncInside}
 use Rattle.ring.specs.declared.head.Head.{Head}
 use Rattle.ring.specs.Bytes.{four}
 use Rattle.ring.specs.Ring.{place}
-use Rattle.ring.specs.Steps.{end_position, end_place, laid_along, with_element}
+use Rattle.ring.specs.Steps.{end_position, laid_along, with_element}
 use Rattle.ring.proofs.Elements.{length_four}
 use Rattle.adding.specs.Writes.{Apart, Went, Cut, OnLay}
 use Rattle.adding.specs.Elements.{OnElement}

@@ -1,5 +1,5 @@
 -- What a call below did, by its answer.
-use Rattle.std.proofs.Common.{◌≡◌, ℕ, ◌+◌, ◌*◌, ◌<◌, ◌≤◌, List, length, Ok, Err, Result, sym, refl, ap, ◌∙◌, subst, arith}
+use Rattle.std.proofs.Common.{◌≡◌, ℕ, ◌+◌, ◌*◌, ◌≤◌, List, length, Ok, Err, Result, ap, ◌∙◌, arith}
 use Rattle.storage.specs.declared.refusal.Refusal.{Refusal}
 use Rattle.storage.specs.declared.refusal.Refusal.TheVariants.{Outside, Gone}
 use Rattle.storage.specs.Cells.{laid, part}

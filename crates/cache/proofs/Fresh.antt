@@ -1,14 +1,14 @@
 -- A cache with no line held.
-use Rattle.std.proofs.Common.{◌≡◌, ℕ, zero, suc, ◌<◌, ◌≤◌, Bool, true, false, List, [], length, get_or, replicate, sym, refl, ap, ◌∙◌, subst, arith}
+use Rattle.std.proofs.Common.{◌≡◌, ℕ, zero, suc, ◌<◌, ◌≤◌, Bool, false, List, [], length, replicate, refl, ◌∙◌, subst}
 use Rattle.std.proofs.lemmas.Bool.{both_ways}
 use Rattle.storage.specs.Standing.{Standing}
-use Rattle.storage.specs.Meaning.{Meaning, Lawful, Only, Fresh}
+use Rattle.storage.specs.Meaning.{Meaning}
 use Rattle.storage.specs.Cuts.{CutDone}
 use Rattle.storage.proofs.Arriving.{settled}
 use Rattle.cache.specs.declared.line.Line.{Line}
 use Rattle.cache.specs.declared.line.Line.TheVariants.{Empty}
-use Rattle.cache.specs.Lines.{line, seen}
-use Rattle.cache.specs.Cached.{Over, InOrder, cache_means}
+use Rattle.cache.specs.Lines.{seen}
+use Rattle.cache.specs.Cached.{InOrder, cache_means}
 use Rattle.cache.specs.Made.{Blank}
 use Rattle.cache.proofs.Means.{empties, seen_empty, from_alive, over_below}
 

@@ -1,6 +1,6 @@
 -- Which sectors are held follows from the steps of a call.
-use Rattle.std.proofs.Common.{◌≡◌, ℕ, zero, suc, ◌+◌, ◌*◌, ◌/◌, ◌%◌, ◌<◌, ◌≤◌, Bool, true, false, ◌⊎◌, List, length, set, is_ok, Ok, Err, Result, sym, refl, ap, ◌∙◌, subst, inl, inr, mod-lt, arith, length-set, get_or-set_other, get_or-set_same}
-use Rattle.std.proofs.lemmas.Bool.{cases_lt, cases_eq, cases_Bool, both_ways, eq-eqb}
+use Rattle.std.proofs.Common.{◌≡◌, ℕ, zero, suc, ◌+◌, ◌/◌, ◌%◌, ◌<◌, ◌≤◌, Bool, true, false, List, length, is_ok, Ok, Err, Result, sym, refl, ap, ◌∙◌, subst, inl, inr, mod-lt, arith, length-set, get_or-set_other, get_or-set_same}
+use Rattle.std.proofs.lemmas.Bool.{cases_eq, both_ways, eq-eqb}
 use Rattle.storage.specs.declared.refusal.LayerFault.{LayerFault}
 use Rattle.storage.specs.declared.refusal.Link.{Link}
 use Rattle.storage.specs.Refusals.{Answer}
@@ -12,8 +12,8 @@ use Rattle.cache.specs.declared.line.Line.{Line}
 use Rattle.cache.specs.declared.line.Line.TheVariants.{Empty, Clean, Dirty}
 use Rattle.cache.specs.declared.cache.Cache.{Cache}
 use Rattle.cache.specs.Lines.{held, line}
-use Rattle.cache.specs.Steps.{EvictsLine, Evicts, Fetches, Puts, TakesBy, Takes}
-use Rattle.cache.specs.Chains.{Walk, Took, Writes, ReadStep, WriteStep, Ranges, begins, piece}
+use Rattle.cache.specs.Steps.{EvictsLine, Puts, TakesBy}
+use Rattle.cache.specs.Chains.{Walk, Took, ReadStep, WriteStep, Ranges, begins, piece}
 use Rattle.cache.specs.Did.{Lifts}
 use Rattle.cache.specs.Holding.{Touches, HeldIn, Holding}
 use Rattle.cache.proofs.Seeing.{both_held}

@@ -1,18 +1,18 @@
 -- What each step of a cache does to its meaning.
-use Rattle.std.proofs.Common.{◌≡◌, ℕ, ◌+◌, ◌-◌, ◌*◌, ◌/◌, ◌%◌, ◌<◌, ◌≤◌, Bool, true, false, ◌⊎◌, List, [], length, get_or, set, Ok, Err, Result, sym, refl, ap, ◌∙◌, subst, inl, inr, mod-lt, arith, length-set, get_or-set_other, get_or-set_same}
-use Rattle.std.proofs.lemmas.Bool.{cases_lt, cases_eq, cases_Bool, both_ways, eq-eqb, cond-true}
-use Rattle.storage.specs.Cells.{laid, part, length_part, Partly}
+use Rattle.std.proofs.Common.{◌≡◌, ℕ, ◌+◌, ◌-◌, ◌*◌, ◌/◌, ◌%◌, ◌<◌, ◌≤◌, Bool, true, false, List, [], length, get_or, set, sym, refl, ap, ◌∙◌, subst, inl, inr, mod-lt, arith, length-set}
+use Rattle.std.proofs.lemmas.Bool.{cases_lt, cases_Bool, both_ways, eq-eqb, cond-true}
+use Rattle.storage.specs.Cells.{laid, length_part, Partly}
 use Rattle.storage.proofs.Lists.{part_at}
 use Rattle.storage.specs.Standing.{Standing}
-use Rattle.storage.specs.Meaning.{Meaning, Lawful, Within, Same}
-use Rattle.storage.specs.Calls.{Arrives, Ended, WriteDone, WriteEnded}
+use Rattle.storage.specs.Meaning.{Meaning, Lawful, Same}
+use Rattle.storage.specs.Calls.{WriteDone, WriteEnded}
 use Rattle.storage.proofs.Arriving.{partly_all, arrives}
 use Rattle.cache.specs.declared.line.Line.{Line}
 use Rattle.cache.specs.declared.line.Line.TheVariants.{Empty, Clean, Dirty}
-use Rattle.cache.specs.Lines.{held, dirty, line, slot, shows, seen, length_seen, Kept}
+use Rattle.cache.specs.Lines.{held, dirty, line, slot, seen, length_seen, Kept}
 use Rattle.cache.specs.Cached.{Over, InOrder, cache_means}
-use Rattle.cache.specs.Steps.{Still, Lost, Filled, Unfilled, OnFill, OnDown}
-use Rattle.cache.proofs.Seeing.{seen_at, seen_below, down_seen, down_kept, length_down, fetch_seen, fetch_kept, put_seen, put_kept, length_put}
+use Rattle.cache.specs.Steps.{Still, Lost, Filled, Unfilled}
+use Rattle.cache.proofs.Seeing.{seen_at, seen_below, down_seen, down_kept, fetch_seen, fetch_kept, put_seen, put_kept, length_put}
 
 -- cells of the visible bytes over what stands below, twice
 standing_trans : (t t' v s : List ℕ) → Standing 16 t v [] t' → Standing 16 t' v [] s → Standing 16 t v [] s

@@ -1,21 +1,17 @@
 -- Calls that a cache hands down as they are.
-use Rattle.std.proofs.Common.{◌≡◌, ℕ, ◌+◌, ◌<◌, ◌≤◌, Bool, true, false, ◌⊎◌, List, [], length, get_or, take, replicate, Ok, Err, Result, sym, refl, ap, ◌∙◌, subst, inl, inr, arith}
+use Rattle.std.proofs.Common.{◌≡◌, ℕ, Bool, true, false, List, [], length, Ok, Err, Result, sym, refl, ap, ◌∙◌, subst, inl, inr, arith}
 use Rattle.std.proofs.lemmas.List.{nil_from_length}
 use Rattle.std.proofs.lemmas.Bool.{cases_lt, cases_Bool, both_ways}
-use Rattle.storage.specs.declared.refusal.Refusal.{Refusal}
 use Rattle.storage.specs.Cells.{laid, part}
 use Rattle.storage.specs.Standing.{Standing}
-use Rattle.storage.specs.Refusals.{Told}
-use Rattle.storage.specs.Meaning.{Meaning, Lawful, Within, Same, Only}
-use Rattle.storage.specs.Calls.{Arrives, Served, Ended, ReadDone, ReadEnded, WriteDone, WriteEnded, SyncDone, SyncEnded, OnRead, OnWrite, OnSync}
+use Rattle.storage.specs.Meaning.{Meaning, Lawful, Within}
+use Rattle.storage.specs.Calls.{Arrives, Served, Ended, ReadDone, WriteDone, WriteEnded, SyncDone}
 use Rattle.storage.proofs.Arriving.{partly_none, settled}
 use Rattle.storage.proofs.Lists.{laid_none, same}
 use Rattle.cache.specs.declared.line.Line.{Line}
 use Rattle.cache.specs.Lines.{seen, Kept}
-use Rattle.cache.specs.Cached.{Over, InOrder, cache_means}
-use Rattle.cache.specs.Chains.{OnGot}
-use Rattle.storage.specs.Layers.{lowered}
-use Rattle.cache.specs.Steps.{Still, Lost, OnDown}
+use Rattle.cache.specs.Cached.{InOrder, cache_means}
+use Rattle.cache.specs.Steps.{Still, Lost}
 use Rattle.cache.specs.Syncs.{AllClean, OnSettle}
 use Rattle.cache.proofs.Means.{over_alive, from_alive, over_dead, from_dead, over_below, still_lost}
 use Rattle.cache.proofs.Seeing.{seen_below}

@@ -1,13 +1,13 @@
 -- A range, piece by piece.
-use Rattle.std.proofs.Common.{◌≡◌, ℕ, zero, suc, ◌+◌, ◌-◌, ◌*◌, ◌/◌, ◌%◌, ◌<◌, ◌≤◌, min, max, Bool, true, false, ◌⊎◌, List, ◌++◌, length, take, drop, sym, refl, ap, ◌∙◌, subst, inl, inr, add-one, arith, length-drop, length-take}
+use Rattle.std.proofs.Common.{◌≡◌, ℕ, ◌+◌, ◌-◌, ◌*◌, ◌/◌, ◌%◌, ◌<◌, ◌≤◌, min, ◌⊎◌, List, ◌++◌, length, take, drop, sym, ap, ◌∙◌, subst, inl, inr, add-one, arith, length-take}
 use Rattle.std.proofs.lemmas.List.{drop-drop, take-append-drop}
 use Rattle.std.proofs.lemmas.Bool.{cases_lt}
-use Rattle.storage.specs.Cells.{laid, part, Partly}
+use Rattle.storage.specs.Cells.{part, Partly}
 use Rattle.storage.specs.Sectors.{touched}
 use Rattle.storage.specs.Meaning.{Meaning}
 use Rattle.storage.specs.Calls.{Arrives}
 use Rattle.storage.proofs.Arriving.{partly_none, partly_join}
-use Rattle.storage.proofs.Sectors.{Even, touched_some, touched_none, touched_more, take_split}
+use Rattle.storage.proofs.Sectors.{Even, touched_some, touched_none, take_split}
 use Rattle.cache.specs.Chains.{Walk, begins, piece}
 
 -- while bytes are left, those that are done end with a sector

@@ -1,13 +1,13 @@
 -- The lines that wait, the lowest sector first.
-use Rattle.std.proofs.Common.{◌≡◌, ℕ, zero, suc, ◌+◌, ◌*◌, ◌%◌, ◌<◌, ◌≤◌, min, Bool, true, false, ◌⊎◌, List, [], ◌∷◌, length, set, Some, None, Option, sym, refl, ap, ◌∙◌, subst, inl, inr, add-one, arith, get_or-set_other, get_or-set_same}
-use Rattle.std.proofs.lemmas.Bool.{cases_lt, cases_eq, cases_Bool, both_ways, eq-eqb}
+use Rattle.std.proofs.Common.{◌≡◌, ℕ, zero, suc, ◌+◌, ◌%◌, ◌<◌, ◌≤◌, min, Bool, true, false, List, length, set, Some, None, Option, sym, refl, ap, ◌∙◌, inl, inr, arith, get_or-set_other, get_or-set_same}
+use Rattle.std.proofs.lemmas.Bool.{cases_lt, cases_eq, both_ways, eq-eqb}
 use Rattle.cache.specs.declared.line.Line.{Line}
 use Rattle.cache.specs.declared.line.Line.TheVariants.{Empty, Clean, Dirty}
 use Rattle.storage.specs.Meaning.{Meaning}
 use Rattle.cache.specs.Cached.{InOrder}
 use Rattle.cache.specs.Lines.{held, dirty, line, Kept}
 use Rattle.cache.proofs.Means.{lives_holding}
-use Rattle.cache.specs.Syncs.{lower_of, AllClean, Lowest, OnLowest, waits, waiting, Above}
+use Rattle.cache.specs.Syncs.{lower_of, AllClean, Lowest, OnLowest, waits, waiting}
 
 dirty_dirty : (a b : ℕ) → Dirty a ≡ Dirty b → a ≡ b
 dirty_dirty a b e = cc

@@ -6,7 +6,7 @@
 --                   a storage that is gone; one that was not told holds no line over a gone storage
 --   cache_means     the meaning
 use Rattle.std.specs.Prelude.{◌≡◌, ℕ, ◌<◌, ◌≤◌, Bool, true, false, List, [], length, refl}
-use Rattle.std.proofs.Common.{sym, ap, ◌∙◌, inl}
+use Rattle.std.proofs.Common.{◌∙◌, inl}
 use Rattle.std.proofs.lemmas.Bool.{both_ways}
 use Rattle.storage.specs.Sizes.{cell_width}
 use Rattle.storage.specs.Standing.{Standing}

@@ -3,7 +3,7 @@
 --   ReadStep, WriteStep   what a call does at one sector: it is taken; a write then puts its bytes there
 --   Ranges              a call on n bytes at o: a step at each sector that it touches, the lowest first,
 --                       or as far as one that was answered GONE
-use Rattle.std.specs.Prelude.{◌≡◌, ℕ, zero, suc, ◌+◌, ◌-◌, ◌*◌, ◌/◌, ◌%◌, ◌<◌, min, max, Bool, true, false, List, length, Ok, Err, Result}
+use Rattle.std.specs.Prelude.{◌≡◌, ℕ, zero, suc, ◌+◌, ◌-◌, ◌*◌, ◌/◌, ◌%◌, ◌<◌, min, max, List, length, Ok, Err, Result}
 use Rattle.storage.specs.Cells.{part}
 use Rattle.storage.specs.Sectors.{touched}
 use Rattle.storage.specs.Refusals.{Answer}

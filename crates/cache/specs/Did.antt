@@ -6,7 +6,7 @@
 --   Answers           a read or write: OUTSIDE first, and then nothing changes; `holding` says in
 --                     plain terms which sectors are held then
 --   CacheDid         what it did at a call
-use Rattle.std.specs.Prelude.{◌≡◌, ℕ, ◌+◌, ◌<◌, ◌≤◌, Bool, true, false, List, length, is_ok, codes, Result}
+use Rattle.std.specs.Prelude.{◌≡◌, ℕ, ◌+◌, ◌<◌, ◌≤◌, true, false, List, length, is_ok, codes, Result}
 use Rattle.storage.specs.declared.refusal.LayerFault.{LayerFault}
 use Rattle.storage.specs.declared.refusal.Link.{Link}
 use Rattle.storage.specs.Layers.{Declined, Lifted, lowered}

@@ -10,7 +10,7 @@
 --   Fetches R f c i s r d   line i takes the sector s, by one read below
 --   Takes R f c s r d  the sector s is held in d: nothing at all if it was; else its line goes
 --                   down if it is dirty, and then takes the sector
-use Rattle.std.specs.Prelude.{◌≡◌, ℕ, ◌+◌, ◌*◌, ◌%◌, Bool, true, false, ◌⊎◌, List, length, Ok, Err, Result, slice_set}
+use Rattle.std.specs.Prelude.{◌≡◌, ℕ, ◌+◌, ◌*◌, ◌%◌, Bool, true, false, ◌⊎◌, List, Ok, Err, Result, slice_set}
 use Rattle.storage.specs.declared.refusal.Refusal.TheVariants.{Gone}
 use Rattle.storage.specs.Cells.{laid, part}
 use Rattle.storage.specs.Refusals.{Answer}

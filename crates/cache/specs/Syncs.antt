@@ -7,7 +7,7 @@
 --                        order, and led from c to d
 --   Flushes              all that waits went down in rising order, or as far as a line answered GONE
 --   Settles              a sync: told GONE it is handed down; else all that waits goes down first
-use Rattle.std.specs.Prelude.{◌≡◌, ℕ, zero, suc, ◌+◌, ◌%◌, ◌<◌, ◌≤◌, min, Bool, true, false, ◌⊎◌, List, [], ◌∷◌, length, Some, None, Ok, Err, Option, Result}
+use Rattle.std.specs.Prelude.{◌≡◌, ℕ, zero, suc, ◌+◌, ◌%◌, ◌<◌, ◌≤◌, min, true, false, ◌⊎◌, List, [], ◌∷◌, Some, None, Ok, Err, Option, Result}
 use Rattle.storage.specs.declared.refusal.Refusal.TheVariants.{Gone}
 use Rattle.storage.specs.Refusals.{Answer}
 use Rattle.storage.specs.Meaning.{Meaning}

@@ -3,6 +3,8 @@
 // A sector may be held only in its own line, so what a line holds is decided by the last call
 // that touched one of its sectors. Writes wait in dirty lines until another sector takes the
 // line or a sync writes them down.
+#![tactic(auto)]
+
 mod answer;
 pub mod cache;
 mod line;

@@ -1,14 +1,13 @@
 -- Heads and records, by the meaning of the storage.
-use Rattle.std.proofs.Common.{◌≡◌, ℕ, ◌≤◌, true, false, ◌⊎◌, List, length, sym, refl, ap, ◌∙◌, subst, inl, inr, arith}
+use Rattle.std.proofs.Common.{◌≡◌, ℕ, List, length, sym, ap, ◌∙◌, subst, inl}
 use Rattle.std.proofs.lemmas.Bool.{both_ways}
-use Rattle.storage.specs.Meaning.{Meaning, Lawful}
+use Rattle.storage.specs.Meaning.{Meaning}
 use Rattle.storage.specs.Inside.{Still, Lost}
 use Rattle.ring.specs.declared.head.Head.{Head}
 use Rattle.ring.specs.Headers.{header_of}
 use Rattle.ring.specs.Reading.{Records, reading_of}
 use Rattle.ring.proofs.Standing.{card_stands}
 use Rattle.card.specs.Held.{Held, Done, Fell}
-use Rattle.card.specs.Surveys.{Shows}
 
 -- a card that reads as records counts them in its header
 pub reads_counted : (b : List ℕ) (rs : List (List ℕ)) → reading_of b ≡ Records rs → (header_of b).count ≡ length rs

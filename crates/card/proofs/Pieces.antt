@@ -1,15 +1,14 @@
 -- Reads of the ring in one piece and in two.
-use Rattle.std.proofs.Common.{◌≡◌, ℕ, ◌+◌, ◌-◌, ◌*◌, ◌<◌, ◌≤◌, List, ◌++◌, length, get_or, take, drop, replicate, Ok, Err, Result, sym, refl, ap, ◌∙◌, arith, rules}
+use Rattle.std.proofs.Common.{◌≡◌, ℕ, ◌+◌, ◌-◌, ◌*◌, ◌<◌, ◌≤◌, List, ◌++◌, length, get_or, Ok, Err, Result, sym, ap, ◌∙◌, arith, rules}
 use borrow.Rule.Slice.PartMut.{put_mid}
 use Rattle.std.proofs.lemmas.Slice.{overwrites}
 use Rattle.storage.specs.Cells.{part}
 use Rattle.storage.specs.Meaning.{Meaning, Lawful}
 use Rattle.storage.specs.Calls.{ReadDone}
-use Rattle.storage.specs.Inside.{Still, OnReadInside}
+use Rattle.storage.specs.Inside.{OnReadInside}
 use Rattle.storage.proofs.Answering.{still_read, lost_read, still_still, still_lost}
-use Rattle.ring.specs.Bytes.{at, number, stretch}
-use Rattle.ring.specs.Ring.{along}
-use Rattle.ring.proofs.Stretches.{stretch_part, stretch_two, length_stretch}
+use Rattle.ring.specs.Bytes.{number, stretch}
+use Rattle.ring.proofs.Stretches.{stretch_part, stretch_two}
 use Rattle.card.specs.Reads.{OnTwo, OnAlong}
 
 -- what a buffer holds after its front and then the rest were filled

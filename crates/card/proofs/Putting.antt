@@ -1,7 +1,7 @@
 -- A header that is written and settled.
-use Rattle.std.proofs.Common.{◌≡◌, ℕ, ◌+◌, ◌≤◌, ◌⊎◌, List, length, Ok, Err, Result, sym, refl, ap, ◌∙◌, subst, arith}
+use Rattle.std.proofs.Common.{◌≡◌, ℕ, ◌⊎◌, List, length, Ok, Err, Result, sym, refl, ◌∙◌, arith}
 use Rattle.std.proofs.lemmas.Bool.{both_ways}
-use Rattle.storage.specs.Cells.{laid, Partly}
+use Rattle.storage.specs.Cells.{laid}
 use Rattle.storage.specs.Meaning.{Meaning, Lawful}
 use Rattle.storage.specs.Calls.{Arrives, WriteDone, WriteEnded}
 use Rattle.storage.specs.Inside.{OnSyncInside}

@@ -1,11 +1,11 @@
 -- How far a walk over a storage has come.
 --   Reach      the elements passed since the walk k are the records rs, and what is found from there on
 --              is what is found from k on behind them; at most two reads were made for each
-use Rattle.std.proofs.Common.{◌≡◌, ℕ, ◌+◌, ◌-◌, ◌*◌, ◌/◌, ◌<◌, ◌≤◌, List, [], ◌∷◌, ◌++◌, length, Ok, Err, Result, sym, refl, ap, ◌∙◌, subst, arith}
+use Rattle.std.proofs.Common.{◌≡◌, ℕ, ◌+◌, ◌-◌, ◌*◌, ◌/◌, List, [], ◌∷◌, ◌++◌, length, Ok, Err, Result, sym, refl, ap, ◌∙◌, subst, arith}
 use Rattle.storage.specs.Refusals.{Answer}
 use Rattle.storage.specs.Meaning.{Meaning}
 use Rattle.storage.specs.Calls.{Call}
-use Rattle.storage.specs.Inside.{Still, Lost}
+use Rattle.storage.specs.Inside.{Still}
 use Rattle.storage.specs.Traces.{Asked}
 use Rattle.storage.proofs.Answering.{still_self, still_still, still_lost}
 use Rattle.storage.proofs.Traces.{asked_none, asked_then, asked_wider}
@@ -13,12 +13,11 @@ use Rattle.ring.specs.declared.header.Header.{Header}
 use Rattle.ring.specs.declared.walk.Walk.{Walk}
 use Rattle.ring.specs.Bytes.{number, stretch}
 use Rattle.ring.specs.Ring.{along, taken}
-use Rattle.ring.specs.Reading as reading
 use Rattle.ring.specs.Walking.{position, left, rest}
 use Rattle.ring.proofs.Stretches.{length_stretch}
 use Rattle.ring.proofs.Elements.{taken_append}
 use Rattle.ring.proofs.Walked.{befores, befores_more, befores_none, befores_broken}
-use Rattle.ring.proofs.Walks.{walk_sound, rest_none}
+use Rattle.ring.proofs.Walks.{rest_none}
 use Rattle.card.specs.declared.refusal.OpenRefusal.{OpenRefusal}
 use Rattle.card.specs.declared.refusal.OpenRefusal.TheVariants.{Gone, NotAQueue, BrokenRecord}
 use Rattle.card.specs.Reads.{ReadsUpTo}

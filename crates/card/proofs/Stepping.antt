@@ -1,14 +1,14 @@
 -- The next element of a walk, from the length that was read.
-use Rattle.std.proofs.Common.{◌≡◌, ℕ, ◌+◌, ◌-◌, ◌*◌, ◌/◌, ◌<◌, ◌≤◌, true, false, cond, leb, List, sym, refl, ap, ◌∙◌, inl, inr, arith}
+use Rattle.std.proofs.Common.{◌≡◌, ℕ, ◌+◌, ◌-◌, ◌*◌, ◌/◌, ◌<◌, ◌≤◌, true, false, leb, List, ap, ◌∙◌, inl, inr, arith}
 use Rattle.std.proofs.lemmas.Bool.{cases_Bool, cond-true, cond-false, leb-true}
 use Rattle.ring.specs.declared.walk.Walk.{Walk}
 use Rattle.ring.specs.Bytes.{number, stretch}
 use Rattle.ring.specs.Ring.{place, along}
 use Rattle.ring.specs.Reading.{before}
-use Rattle.ring.specs.Walking.{position, left, rest, Passed}
+use Rattle.ring.specs.Walking.{position, rest, Passed}
 use Rattle.ring.proofs.Places.{place_in}
 use Rattle.ring.proofs.Stretches.{number_place}
-use Rattle.ring.proofs.Walks.{walk_in, walk_least, walk_sound, rest_passed}
+use Rattle.ring.proofs.Walks.{walk_in, walk_sound, rest_passed}
 use Rattle.card.specs.Surveys.{reads_next, Nexted}
 
 pub two_reads : (k : Walk) → leb (k.used + 4) k.header.ring ≡ true → reads_next k ≡ 2

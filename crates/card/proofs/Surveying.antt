@@ -1,5 +1,5 @@
 -- From the header and the walk to what the card says.
-use Rattle.std.proofs.Common.{◌≡◌, ℕ, ◌+◌, ◌-◌, ◌*◌, ◌/◌, ◌≤◌, true, false, List, length, Ok, Err, Result, sym, refl, ap, ◌∙◌, subst, arith}
+use Rattle.std.proofs.Common.{◌≡◌, ℕ, ◌+◌, true, false, List, length, Ok, Err, Result, sym, ap, ◌∙◌, subst, arith}
 use Rattle.storage.specs.Refusals.{Answer}
 use Rattle.storage.specs.Meaning.{Meaning}
 use Rattle.storage.specs.Calls.{Call, Reading, Writing, Syncing}
@@ -13,7 +13,7 @@ use Rattle.ring.specs.declared.walk.Walk.{Walk}
 use Rattle.ring.specs.Ring.{along}
 use Rattle.ring.specs.Headers.{header_of, sound}
 use Rattle.ring.specs.Reading as reading
-use Rattle.ring.specs.Walking.{position, left, rest, Begun}
+use Rattle.ring.specs.Walking.{position, left, rest}
 use Rattle.ring.proofs.Standing.{read_sound, read_unsound}
 use Rattle.card.specs.declared.refusal.OpenRefusal.{OpenRefusal}
 use Rattle.card.specs.declared.refusal.OpenRefusal.TheVariants.{Gone, NotAQueue, BrokenRecord}

@@ -1,7 +1,7 @@
 -- The card of the empty queue.
 --   OnErase m m' r   the header of the empty queue was written and settled, and the head is its head; or
 --                    the storage turned GONE meanwhile
-use Rattle.std.specs.Prelude.{◌≡◌, ℕ, [], Ok, Err, Result}
+use Rattle.std.specs.Prelude.{◌≡◌, [], Ok, Err, Result}
 use Rattle.storage.specs.Meaning.{Meaning, Only}
 use Rattle.storage.specs.Calls.{Served}
 use Rattle.ring.specs.declared.head.Head.{Head}

@@ -12,7 +12,6 @@ use Rattle.std.specs.Prelude.{◌≡◌, ℕ, ◌+◌, ◌-◌, ◌*◌, ◌/◌
 use Rattle.storage.specs.Meaning.{Meaning}
 use Rattle.storage.specs.Inside.{Still, Lost}
 use Rattle.ring.specs.declared.head.Head.{Head}
-use Rattle.ring.specs.declared.header.Header.{Header}
 use Rattle.ring.specs.declared.walk.Walk.{Walk}
 use Rattle.ring.specs.Layout.{header_width}
 use Rattle.ring.specs.Bytes.{number, stretch}

@@ -4,6 +4,8 @@
 //     cards               opens the samples
 //     cards write DIR     writes the samples to files in DIR too
 //     cards open FILE ..  opens card files
+#![tactic(auto)]
+
 mod samples;
 
 use anyhow::anyhow;

@@ -1,20 +1,20 @@
 -- A device of any kind that keeps the rules is a storage: what each call does to its meaning.
-use Rattle.std.proofs.Common.{◌≡◌, ℕ, ◌+◌, ◌*◌, ◌<◌, ◌≤◌, Bool, true, false, cond, not, ◌&&◌, leb, ◌⊎◌, List, [], ◌∷◌, length, get_or, take, replicate, Ok, Err, sym, refl, ap, ◌∙◌, subst, inl, inr, arith, length-take}
-use Rattle.std.proofs.lemmas.Bool.{leb-true, leb-false, and_parts, not-true, not-false, both_ways, cases_Bool}
+use Rattle.std.proofs.Common.{◌≡◌, ℕ, ◌+◌, ◌<◌, ◌≤◌, Bool, true, false, cond, not, leb, List, [], ◌∷◌, length, get_or, take, replicate, Ok, Err, sym, refl, ap, ◌∙◌, subst, arith, length-take}
+use Rattle.std.proofs.lemmas.Bool.{leb-true, leb-false, and_parts, not-true, not-false, both_ways}
 use Rattle.storage.specs.declared.life.Life.{Life}
 use Rattle.storage.specs.declared.life.Life.TheVariants.{Endless, Left}
 use Rattle.storage.specs.declared.refusal.Link.{Link}
 use Rattle.storage.specs.declared.refusal.Refusal.TheVariants.{Outside, Gone}
 use Rattle.storage.specs.Cells.{laid, part, Partly}
 use Rattle.storage.specs.Standing.{Standing, InPart, unmarked}
-use Rattle.storage.specs.Lives.{lessened, enough}
+use Rattle.storage.specs.Lives.{enough}
 use Rattle.storage.specs.Refusals.{Answer, Step, step, told, Tells}
-use Rattle.storage.specs.Meaning.{Meaning, Same}
-use Rattle.storage.specs.Calls.{Reading, Writing, Syncing, Arrives, ReadDone, WriteDone, WriteEnded, SyncDone, SyncEnded, OnRead, OnWrite, OnSync}
+use Rattle.storage.specs.Meaning.{Same}
+use Rattle.storage.specs.Calls.{Reading, Writing, Syncing, ReadDone, WriteDone, WriteEnded, SyncDone, OnRead, OnWrite, OnSync}
 use Rattle.storage.proofs.Lists.{length_laid}
 use Rattle.storage.proofs.Marks.{length_unmarked, get_or_unmarked}
 use Rattle.storage.proofs.Arriving.{partly_none, partly_front, partly_all, settled, arrives}
-use Rattle.devices.specs.Devices.{Held, Kind, InOrder, means_of, Outcome, served, past, lost, ends, serves, outcome, left, broken, written, synced, Answered, Did}
+use Rattle.devices.specs.Devices.{Held, Kind, InOrder, means_of, Outcome, served, past, lost, ends, serves, left, broken, written, synced, Did}
 use Rattle.devices.specs.Rules.{Rules}
 
 abbrev links : Link → List Step

@@ -1,11 +1,9 @@
 -- A mount, and a power cut with the mount after it.
-use Rattle.std.proofs.Common.{◌≡◌, ℕ, ◌+◌, ◌/◌, ◌%◌, ◌<◌, ◌≤◌, Bool, true, false, ◌⊎◌, List, map, length, get_or, replicate, sym, refl, ap, ◌∙◌, subst, inl, inr, arith}
-use Rattle.std.specs.List.{range_with_len}
+use Rattle.std.proofs.Common.{◌≡◌, ℕ, ◌/◌, ◌%◌, ◌<◌, ◌≤◌, Bool, false, List, length, get_or, replicate, sym, refl, ap, ◌∙◌, subst, inl, inr, arith}
 use Rattle.std.proofs.lemmas.List.{get_or_past, length-replicate}
 use Rattle.std.proofs.lemmas.List.FromFn.{length-map-range_with_len, fill_by_all}
 use Rattle.storage.specs.declared.life.Life.TheVariants.{Endless}
 use Rattle.storage.specs.Sizes.{SizeRule}
-use Rattle.storage.specs.Cells.{InCell}
 use Rattle.storage.specs.Standing.{Standing, unmarked}
 use Rattle.storage.specs.Meaning.{Fresh}
 use Rattle.storage.specs.Cuts.{CutDone}

@@ -1,15 +1,14 @@
 -- What a device of any kind did, from how a call of it went.
-use Rattle.std.proofs.Common.{◌≡◌, ℕ, ◌+◌, ◌<◌, ◌≤◌, Bool, true, false, cond, not, ◌&&◌, leb, List, [], length, take, Ok, Err, sym, refl, ap, ◌∙◌, arith}
+use Rattle.std.proofs.Common.{◌≡◌, ℕ, ◌+◌, ◌≤◌, Bool, true, false, List, length, Ok, Err, sym, refl, ap, ◌∙◌, arith}
 use Rattle.std.proofs.lemmas.Bool.{le-leb, leb-false, both_ways, cond-false}
 use Rattle.storage.specs.declared.life.Life.{Life}
 use Rattle.storage.specs.declared.life.Life.TheVariants.{Endless, Left}
 use Rattle.storage.specs.declared.refusal.Link.{Link}
-use Rattle.storage.specs.declared.refusal.Refusal.TheVariants.{Outside, Gone}
-use Rattle.storage.specs.Cells.{laid}
+use Rattle.storage.specs.declared.refusal.Refusal.TheVariants.{Gone}
 use Rattle.storage.specs.Lives.{enough}
 use Rattle.storage.specs.Refusals.{step}
 use Rattle.storage.specs.Calls.{Writing, Syncing}
-use Rattle.devices.specs.Devices.{Held, Kind, served, lost, ends, serves, broken, written, synced, Did}
+use Rattle.devices.specs.Devices.{Held, Kind, served, lost, serves, broken, written, synced, Did}
 
 pub same_held : {d d' v v' : List ℕ} {t t' : List Bool} {l l' : Life} {g g' : Bool} → d ≡ d' → v ≡ v' → t ≡ t' → l ≡ l' → g ≡ g' →
     ◌≡◌ {A = Held} (record { durable = d; visible = v; torn = t; life = l; gone = g }) (record { durable = d'; visible = v'; torn = t'; life = l'; gone = g' })

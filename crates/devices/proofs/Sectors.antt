@@ -1,8 +1,5 @@
 -- Sectors, one after another: how many are touched, how far they reach, and what life is left.
-use Rattle.std.proofs.Common.{◌≡◌, ℕ, zero, suc, ◌+◌, ◌-◌, ◌*◌, ◌/◌, ◌%◌, ◌<◌, ◌≤◌, min, Bool, true, false, cond, not, leb, ◌⊎◌, List, ◌++◌, length, get_or, take, drop, sym, refl, ap, ◌∙◌, inl, inr, not-suc-le-zero, arith, length-drop, length-take}
-use Rattle.std.proofs.lemmas.List.{take-append-drop, take-take, drop-take}
-use Rattle.storage.specs.Cells.{laid}
-use Rattle.storage.proofs.Lists.{laid_laid}
+use Rattle.std.proofs.Common.{◌≡◌, ℕ, ◌+◌, ◌-◌, ◌%◌, ◌<◌, ◌≤◌, true, false, sym, refl, ap, ◌∙◌, inl, inr, arith}
 use Rattle.std.proofs.lemmas.Bool.{cases_lt, leb-true, leb-false, le-leb, lt-leb, both_ways}
 use Rattle.storage.specs.declared.life.Life.{Life}
 use Rattle.storage.specs.declared.life.Life.TheVariants.{Endless, Left}

@@ -15,7 +15,7 @@
 --   with_life n h   the same with a life of n steps
 --   kept K h cs     the content that a cut with the choice bytes cs leaves
 --   fresh s         what it holds once the content s is mounted
-use Rattle.std.specs.Prelude.{◌≡◌, ℕ, ◌+◌, ◌*◌, ◌/◌, ◌%◌, ◌<◌, ◌≤◌, Bool, true, false, cond, not, ◌&&◌, ◌⊎◌, List, map, length, take, replicate, Ok, Err, nat_le, slice_index, slice_index_or, refl}
+use Rattle.std.specs.Prelude.{◌≡◌, ℕ, ◌+◌, ◌/◌, ◌%◌, Bool, true, false, cond, not, ◌&&◌, List, map, length, take, replicate, Ok, Err, nat_le, slice_index, slice_index_or, refl}
 use Rattle.std.proofs.Common.{inl}
 use Rattle.std.specs.List.{range_with_len}
 use Rattle.storage.specs.declared.life.Life.{Life}

@@ -9,7 +9,7 @@ use Rattle.std.specs.Prelude.{◌≡◌, ℕ, ◌%◌, Bool, cond, List, length,
 use Rattle.storage.specs.declared.refusal.BadMount.{BadMount}
 use Rattle.storage.specs.Sizes.{SizeRule, cell_width}
 use Rattle.storage.specs.Standing.{marked}
-use Rattle.storage.specs.Meaning.{Meaning, Fresh}
+use Rattle.storage.specs.Meaning.{Fresh}
 use Rattle.devices.specs.declared.image.Image.{Image}
 use Rattle.devices.specs.declared.image.ImageParts.{ImageParts}
 use Rattle.devices.specs.Devices.{Held, Kind, means_of, fresh}

@@ -1,5 +1,5 @@
 -- A power cut of a partition, from the cut of the storage below.
-use Rattle.std.proofs.Common.{◌≡◌, ℕ, List, Ok, Err, Result, refl, ap, ◌∙◌}
+use Rattle.std.proofs.Common.{ℕ, List, Ok, Err, Result, refl, ap, ◌∙◌}
 use Rattle.storage.specs.declared.life.Life.{Life}
 use Rattle.storage.specs.declared.refusal.BadMount.{BadMount}
 use Rattle.storage.specs.Cells.{part}

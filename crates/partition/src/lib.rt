@@ -3,6 +3,8 @@
 // It keeps no bytes. Offset 0 of it is offset `base` below, and what it shows, what may
 // stand on it and whether it lives are read off the storage below. A range that passes its
 // own size it refuses itself, so no call touches a byte below outside the part.
+#![tactic(auto)]
+
 ghost use Rattle.std.specs.Prelude.{◌≡◌};
 ghost use Rattle.partition.specs.Parts.{part_lawful};
 ghost use Rattle.partition.specs.Partitions.{OnOver, PartDid, Sets, means_of, partition_name};

@@ -1,6 +1,8 @@
 // A power cut, from the first write to what the card shows after it: on an image, which is
 // cut by cells, on a sector device, which is cut by sectors, and on a cache over a partition of
 // an image, where writes wait in the cache.
+#![tactic(auto)]
+
 use anyhow::anyhow;
 use cache::cache::Cache;
 use devices::image::{Image, ImageParts};

@@ -16,7 +16,7 @@ use Rattle.ring.specs.Layout.{header_width, least_ring, longest_read}
 use Rattle.ring.specs.Bytes.{number, stretch}
 use Rattle.ring.specs.Ring.{place, along, encodings, taken, used}
 use Rattle.ring.specs.Headers.{header_of, SoundHeader}
-use Rattle.ring.specs.Reading.{Records, NotAQueue, BrokenRecord, reading, reading_of}
+use Rattle.ring.specs.Reading.{Records, NotAQueue, BrokenRecord, reading}
 
 module _ (w most size : ℕ) (h : Header) (f : ℕ → ℕ) where
   abbrev pub Sound : Type 0

@@ -5,6 +5,8 @@
 // the number of elements, and the positions of the first and the last one. Positions run from
 // 16 to the ring's end and begin again at 16. An element is a big-endian 32-bit length and so
 // many bytes, and follows the one before it.
+#![tactic(auto)]
+
 pub mod head;
 pub mod header;
 pub mod law;

@@ -1,12 +1,12 @@
 -- A write and a sync, by the meaning alone.
-use Rattle.std.proofs.Common.{◌≡◌, ℕ, ◌+◌, ◌-◌, ◌*◌, ◌/◌, ◌<◌, ◌≤◌, ◌⊎◌, List, length, get_or, Ok, Err, sym, refl, ap, ◌∙◌, subst, inl, inr, arith}
+use Rattle.std.proofs.Common.{◌≡◌, ℕ, ◌+◌, ◌/◌, ◌≤◌, ◌⊎◌, List, length, Ok, Err, sym, ◌∙◌, subst, inl, inr, arith}
 use Rattle.std.proofs.lemmas.Bool.{cases_lt}
 use Rattle.storage.specs.declared.refusal.Refusal.{Refusal}
 use Rattle.storage.specs.declared.refusal.Refusal.TheVariants.{Outside, Gone}
 use Rattle.storage.specs.Cells.{laid, Partly}
 use Rattle.storage.specs.Refusals.{Answer, Told}
 use Rattle.storage.specs.Meaning.{Meaning, Lawful, Only}
-use Rattle.storage.specs.Calls.{Arrives, WriteDone, OnWrite, OnSync}
+use Rattle.storage.specs.Calls.{WriteDone, OnWrite, OnSync}
 use Rattle.storage.specs.Stores.{OnStore, OldOrNew, WholeCell}
 use Rattle.storage.proofs.Lists.{laid_apart, laid_within, length_laid, same}
 

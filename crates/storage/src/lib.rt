@@ -4,6 +4,8 @@
 // content that may stand on it if power fails now, whether it lives, and whether it
 // is in order. Code above a storage is proved from this meaning alone, so it holds on
 // every kind of storage and on every stack of layers.
+#![tactic(auto)]
+
 pub mod client;
 pub mod cuttable;
 pub mod inside;

@@ -1,5 +1,7 @@
 // Examples on small cards: what a mount refuses, what a range past the size gets, how a life
 // ends, what each choice of a cut leaves, and how faults come up through stacks of layers.
+#![tactic(auto)]
+
 use storage::refusal::Refusal;
 
 #[cfg(test)]

@@ -1,5 +1,5 @@
 -- Each row is computed; only the record that fills a ring is not compared byte by byte.
-use Rattle.std.proofs.Common.{◌≡◌, ℕ, ◌+◌, ◌-◌, ◌<◌, ◌≤◌, List, [], ◌∷◌, ◌++◌, length, get_or, replicate, refl, ap, ◌∙◌, arith}
+use Rattle.std.proofs.Common.{◌≡◌, ℕ, ◌-◌, ◌<◌, ◌≤◌, List, [], ◌∷◌, ◌++◌, get_or, replicate, refl, ap, ◌∙◌, arith}
 use Rattle.std.proofs.lemmas.List.{get_or-append_right, get_or-replicate}
 use Rattle.ring.specs.Bytes.{at, number, four, stretch}
 use Rattle.ring.specs.Ring.{place, along}
@@ -7,7 +7,7 @@ use Rattle.ring.specs.Headers.{header_of, cell, doubled, sound}
 use Rattle.ring.specs.Reading.{Records, walk, reading, reading_of}
 use Rattle.ring.proofs.Stretches.{stretch_constant}
 use Rattle.ring.proofs.Places.{place_cases}
-use Rattle.worked.specs.Rings.{Row, card, Right, full}
+use Rattle.worked.specs.Rings.{card, Right, full}
 use Rattle.worked.proofs.worked_rings.Goals as goal
 
 -- behind its length field the card has zeros

@@ -1,6 +1,6 @@
-use Rattle.std.proofs.Common.{◌≡◌, ℕ, ◌+◌, ◌<◌, ◌≤◌, true, List, [], ◌∷◌, ◌++◌, length, Ok, Err, Result, sym, refl, ap, ◌∙◌, subst, arith}
+use Rattle.std.proofs.Common.{◌≡◌, ◌≤◌, true, [], ◌∷◌, length, Ok, Err, sym, refl, ap, subst, arith}
 use Rattle.std.proofs.lemmas.Result.{err_from_is_err_and}
-use Rattle.storage.specs.Calls.{Call, Writing, Syncing}
+use Rattle.storage.specs.Calls.{Writing, Syncing}
 use Rattle.storage.specs.Traces.{Made}
 use Rattle.storage.specs.Stores.{StoreDone}
 use Rattle.storage.proofs.Traces.{made_behind, made_front}

@@ -1,7 +1,7 @@
-use Rattle.std.proofs.Common.{◌≡◌, ◌+◌, refl, ap, ◌∙◌, arith}
+use Rattle.std.proofs.Common.{◌+◌, ap, ◌∙◌, arith}
 use Rattle.ring.specs.Ring.{place}
 use Rattle.ring.proofs.Places.{place_in}
-use Rattle.adding.proofs.Ends.{head_start, head_least, head_most, end_in}
+use Rattle.adding.proofs.Ends.{head_start, head_most, end_in}
 use Rattle.adding.proofs.append.header_after.Goals as goal
 
 pub overflow_cast-first : goal.overflow_cast-first

@@ -1,4 +1,4 @@
-use Rattle.std.proofs.Common.{◌≡◌, ℕ, ◌-◌, List, length, take, drop, replicate, ◌∙◌, subst, arith, length-take}
+use Rattle.std.proofs.Common.{◌≡◌, ℕ, ◌-◌, length, take, replicate, ◌∙◌, subst, arith, length-take}
 use lib.ListN.{length-replicate}
 use Rattle.adding.specs.Copies.{OnCopy}
 use Rattle.adding.proofs.copy.copy_piece.Goals as goal

@@ -1,11 +1,10 @@
-use Rattle.std.proofs.Common.{◌≡◌, ℕ, ◌+◌, ◌<◌, ◌≤◌, List, [], ◌∷◌, ◌++◌, length, Ok, Err, sym, refl, ap, ◌∙◌, arith}
+use Rattle.std.proofs.Common.{◌≡◌, ℕ, ◌+◌, [], ◌∷◌, length, Ok, Err, refl, ap, ◌∙◌, arith}
 use Rattle.std.proofs.lemmas.Result.{err_from_is_err_and}
-use Rattle.storage.specs.Calls.{Call, Syncing}
+use Rattle.storage.specs.Calls.{Syncing}
 use Rattle.storage.proofs.Traces.{made_one, made_behind, made_front}
 use Rattle.ring.specs.Bytes.{four}
 use Rattle.ring.specs.Ring.{place}
 use Rattle.ring.specs.Steps.{end_position}
-use Rattle.ring.proofs.Elements.{length_four}
 use Rattle.ring.proofs.Places.{place_in}
 use Rattle.adding.specs.Writes.{pieces}
 use Rattle.adding.proofs.Ends.{head_sound, head_least, head_most, end_in}

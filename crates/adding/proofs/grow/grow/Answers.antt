@@ -1,4 +1,4 @@
-use Rattle.std.proofs.Common.{◌≡◌, ℕ, ◌+◌, ◌≤◌, true, List, [], ◌∷◌, Ok, Err, Result, sym, refl, ap, ◌∙◌, subst, arith}
+use Rattle.std.proofs.Common.{◌≡◌, ℕ, ◌≤◌, true, [], ◌∷◌, Ok, Err, sym, refl, ap, subst, arith}
 use Rattle.std.proofs.lemmas.Result.{err_from_is_err_and}
 use Rattle.storage.specs.Calls.{Writing, Syncing}
 use Rattle.storage.specs.Traces.{Made, Asked}
@@ -9,7 +9,6 @@ use Rattle.ring.specs.Headers.{cell, sound}
 use Rattle.ring.specs.Steps.{carried}
 use Rattle.card.specs.Headers.{PutEnded}
 use Rattle.adding.specs.Copies.{copies, CopyCall, OnCopy}
-use Rattle.adding.proofs.Ends.{head_least}
 use Rattle.adding.proofs.Growing.{head_carried, grown_sound, copy_fell, sync_fell, header_fell, grew, copy_calls, sync_calls, header_calls}
 use Rattle.adding.proofs.grow.grow.Goals as goal
 

@@ -1,4 +1,4 @@
-use Rattle.std.proofs.Common.{◌<◌, inl, inr, arith}
+use Rattle.std.proofs.Common.{inl, inr, arith}
 use Rattle.std.proofs.lemmas.Bool.{cases_lt}
 use Rattle.adding.proofs.Ends.{head_sound, head_most}
 use Rattle.adding.proofs.grow.header_grown.Goals as goal

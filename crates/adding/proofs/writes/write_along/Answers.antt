@@ -1,4 +1,4 @@
-use Rattle.std.proofs.Common.{◌≡◌, ℕ, ◌+◌, ◌-◌, ◌<◌, ◌≤◌, List, [], ◌∷◌, length, take, drop, Ok, Err, sym, refl, ap, ◌∙◌, subst, inl, arith}
+use Rattle.std.proofs.Common.{◌≡◌, ℕ, ◌+◌, ◌-◌, ◌<◌, ◌≤◌, List, [], ◌∷◌, length, take, drop, Ok, Err, sym, refl, subst, inl, arith}
 use Rattle.std.proofs.lemmas.List.{nil_from_length, take_rest}
 use Rattle.std.proofs.lemmas.Bool.{eqb-true, eqb-false}
 use Rattle.std.proofs.lemmas.Result.{err_from_is_err_and}
@@ -8,7 +8,7 @@ use Rattle.storage.specs.Inside.{OnWriteInside}
 use Rattle.storage.specs.Layers.{lowered}
 use Rattle.storage.specs.Traces.{Made}
 use Rattle.storage.proofs.Traces.{made_one, made_then}
-use Rattle.adding.specs.Writes.{pieces, Apart, OnLay}
+use Rattle.adding.specs.Writes.{pieces, Apart}
 use Rattle.adding.proofs.Going.{went_self}
 use Rattle.adding.proofs.Laying.{pieces_one, pieces_two, lay_none, lay_one, lay_front, lay_two}
 use Rattle.adding.proofs.writes.write_along.Goals as goal

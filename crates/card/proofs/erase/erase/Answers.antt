@@ -1,4 +1,4 @@
-use Rattle.std.proofs.Common.{◌≡◌, ℕ, ◌≤◌, List, [], length, sym, refl, ◌∙◌, subst, arith}
+use Rattle.std.proofs.Common.{◌≡◌, ℕ, List, [], sym, refl, ◌∙◌, subst, arith}
 use Rattle.ring.specs.Reading.{Records, reading_of}
 use Rattle.ring.specs.Steps.{cleared}
 use Rattle.ring.proofs.Soundness.{empty_sound}

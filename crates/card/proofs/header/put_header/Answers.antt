@@ -1,9 +1,8 @@
-use Rattle.std.proofs.Common.{◌≡◌, ℕ, List, [], ◌∷◌, length, Ok, Err, Result, refl, ap, ◌∙◌, subst, inl, inr, arith}
+use Rattle.std.proofs.Common.{◌≡◌, ℕ, List, [], ◌∷◌, length, Err, ap, ◌∙◌, subst, inl, arith}
 use Rattle.std.proofs.lemmas.Result.{err_from_is_err_and}
-use Rattle.storage.specs.Calls.{Call, Writing, Syncing}
+use Rattle.storage.specs.Calls.{Writing, Syncing}
 use Rattle.storage.specs.Traces.{Made}
 use Rattle.storage.proofs.Traces.{made_one, made_then}
-use Rattle.ring.specs.Headers.{cell}
 use Rattle.card.specs.Headers.{OnPut}
 use Rattle.ring.proofs.HeaderWrites.{length_cell}
 use Rattle.card.proofs.Putting.{put_ended, put_synced}

@@ -1,5 +1,3 @@
-use Rattle.std.proofs.Common.{◌≡◌, length, ap, ◌∙◌, arith}
-use Rattle.ring.specs.Bytes.{stretch}
 use Rattle.ring.specs.Ring.{along}
 use Rattle.card.proofs.Pieces.{number_read}
 use Rattle.card.proofs.reads.read_number.Goals as goal

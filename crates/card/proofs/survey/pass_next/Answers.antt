@@ -1,10 +1,9 @@
-use Rattle.std.proofs.Common.{◌≡◌, ℕ, ◌-◌, ◌<◌, Ok, Err, Result, sym, refl, ap, ◌∙◌, subst, arith}
+use Rattle.std.proofs.Common.{ℕ, Ok, Err, sym, refl, ap, ◌∙◌, subst, arith}
 use Rattle.std.proofs.lemmas.Bool.{leb-false}
 use Rattle.storage.proofs.Answering.{still_self}
 use Rattle.storage.specs.Traces.{Asked}
 use Rattle.storage.proofs.Traces.{asked_none}
 use Rattle.ring.specs.Reading.{BrokenRecord}
-use Rattle.ring.specs.Walking.{left}
 use Rattle.ring.proofs.Walks.{walk_least, walk_sound, rest_full, rest_broken}
 use Rattle.card.specs.Reads.{ReadsUpTo}
 use Rattle.card.specs.Surveys.{ring_bytes, reads_next}

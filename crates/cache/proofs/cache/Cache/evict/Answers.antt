@@ -1,7 +1,7 @@
-use Rattle.std.proofs.Common.{◌≡◌, ◌+◌, ◌*◌, ◌<◌, ◌≤◌, Bool, true, false, length, set, Ok, Err, sym, refl, ap, ◌∙◌, subst, arith, get_or-set_same, rules}
+use Rattle.std.proofs.Common.{◌≡◌, Bool, true, false, set, Ok, Err, sym, refl, ap, ◌∙◌, subst, arith, get_or-set_same}
 use Rattle.std.proofs.lemmas.Bool.{eq-eqb}
 use Rattle.cache.specs.declared.line.Line.{Line}
-use Rattle.cache.specs.declared.line.Line.TheVariants.{Empty, Clean, Dirty}
+use Rattle.cache.specs.declared.line.Line.TheVariants.{Empty, Clean}
 use Rattle.cache.specs.Lines.{held, dirty, line}
 use Rattle.cache.specs.Cached.{InOrder, cache_means}
 use Rattle.cache.specs.Steps.{Still, Lost, EvictsLine}

@@ -1,4 +1,4 @@
-use Rattle.std.proofs.Common.{◌≡◌, ◌<◌, Bool, true, false, length, set, sym, refl, ap, ◌∙◌, subst, mod-lt, arith, get_or-set_same}
+use Rattle.std.proofs.Common.{◌≡◌, ◌<◌, Bool, true, length, set, sym, refl, ap, ◌∙◌, subst, mod-lt, arith, get_or-set_same}
 use Rattle.std.proofs.lemmas.Bool.{eq-eqb}
 use Rattle.cache.specs.declared.line.Line.{Line}
 use Rattle.cache.specs.declared.line.Line.TheVariants.{Empty, Clean}

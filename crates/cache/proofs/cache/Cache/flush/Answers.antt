@@ -1,11 +1,11 @@
 use Rattle.std.proofs.Common.{◌≡◌, ℕ, ◌%◌, ◌<◌, [], ◌∷◌, length, set, Ok, sym, refl, ap, ◌∙◌, subst, arith}
 use Rattle.cache.specs.declared.cache.Cache.{Cache}
 use Rattle.cache.specs.declared.line.Line.{Line}
-use Rattle.cache.specs.declared.line.Line.TheVariants.{Clean, Dirty}
+use Rattle.cache.specs.declared.line.Line.TheVariants.{Clean}
 use Rattle.cache.specs.Lines.{line}
 use Rattle.cache.specs.Cached.{means_of}
 use Rattle.cache.specs.Steps.{EvictsLine}
-use Rattle.cache.specs.Syncs.{Above, waiting}
+use Rattle.cache.specs.Syncs.{waiting}
 use Rattle.cache.proofs.Means.{still_self, still_still, still_lost}
 use Rattle.cache.proofs.Sinking.{low_home, waiting_less, above_next}
 use Rattle.cache.proofs.cache.Cache.flush.Goals as goal

@@ -1,4 +1,4 @@
-use Rattle.std.proofs.Common.{◌≡◌, ◌%◌, Bool, true, false, Ok, Err, sym, refl, ◌∙◌, subst, inr, rules}
+use Rattle.std.proofs.Common.{◌≡◌, ◌%◌, Bool, false, Ok, Err, sym, refl, ◌∙◌, subst, inr, rules}
 use Rattle.cache.specs.Lines.{held, line}
 use Rattle.cache.specs.Cached.{means_of}
 use Rattle.cache.specs.Steps.{TakesBy}

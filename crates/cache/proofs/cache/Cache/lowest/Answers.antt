@@ -1,4 +1,4 @@
-use Rattle.std.proofs.Common.{◌≡◌, ℕ, ◌+◌, Option, sym, refl, ap, ◌∙◌, subst, arith}
+use Rattle.std.proofs.Common.{ℕ, ◌+◌, Option, sym, refl, subst, arith}
 use Rattle.cache.specs.Lines.{line}
 use Rattle.cache.specs.Syncs.{OnLowest}
 use Rattle.cache.proofs.Sinking.{lowest_more}

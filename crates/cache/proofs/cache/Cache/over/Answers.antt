@@ -1,4 +1,4 @@
-use Rattle.std.proofs.Common.{ℕ, ◌<◌, ◌≤◌, replicate, refl, arith, rules}
+use Rattle.std.proofs.Common.{ℕ, ◌<◌, ◌≤◌, replicate, refl, arith}
 use lib.ListN.{length-replicate}
 use Rattle.cache.specs.declared.line.Line.TheVariants.{Empty}
 use Rattle.cache.proofs.Fresh.{all_empty, fresh_order, fresh_visible}

@@ -1,6 +1,5 @@
 use Rattle.std.proofs.Common.{ℕ, ◌+◌, ◌*◌, Bool, false, List, set, sym, refl, subst}
 use Rattle.storage.specs.Calls.{WriteDone}
-use Rattle.storage.specs.Cells.{laid}
 use Rattle.cache.specs.declared.line.Line.TheVariants.{Dirty}
 use Rattle.cache.specs.Cached.{InOrder, cache_means}
 use Rattle.cache.proofs.Means.{lives_holding, put_done}

@@ -1,4 +1,4 @@
-use Rattle.std.proofs.Common.{◌≡◌, ℕ, ◌+◌, ◌-◌, ◌/◌, ◌%◌, ◌<◌, ◌≤◌, min, true, ◌⊎◌, List, length, take, drop, Ok, Err, sym, refl, ap, ◌∙◌, subst, inl, inr, ⊎_elim, arith, take_all, rules}
+use Rattle.std.proofs.Common.{◌≡◌, ℕ, ◌+◌, ◌-◌, ◌/◌, ◌%◌, ◌<◌, ◌≤◌, min, List, length, take, drop, Ok, Err, sym, refl, ap, ◌∙◌, subst, inl, inr, ⊎_elim, arith, take_all, rules}
 use Rattle.std.proofs.lemmas.Bool.{cases_lt, both_ways}
 use Rattle.storage.specs.Cells.{laid}
 use Rattle.storage.specs.Calls.{Arrives, WriteDone}
@@ -9,7 +9,7 @@ use Rattle.storage.proofs.Sectors.{Even, even_more, piece_more, touched_none, to
 use Rattle.cache.specs.declared.cache.Cache.{Cache}
 use Rattle.cache.specs.Cached.{means_of}
 use Rattle.cache.specs.Lines.{length_seen}
-use Rattle.cache.specs.Chains.{Walk, WriteStep, Took, Writes, begins, piece}
+use Rattle.cache.specs.Chains.{Walk, WriteStep, Took, Writes, begins}
 use Rattle.storage.proofs.Lists.{laid_none}
 use Rattle.cache.proofs.Ranging.{evenly, sector_next, begins_next, piece_next, walk_more, arrives_more, arrives_part}
 use Rattle.cache.proofs.cache.Cache.write_range.Goals as goal

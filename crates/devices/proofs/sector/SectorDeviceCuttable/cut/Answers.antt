@@ -1,6 +1,5 @@
 use Rattle.std.proofs.Common.{◌≡◌, ℕ, false, length, replicate, refl, ap, ◌∙◌, rules}
 use lib.ListN.{length-replicate}
-use Rattle.storage.specs.Standing.{unmarked}
 use Rattle.devices.specs.Sector.{sector, sector_holds}
 use Rattle.devices.proofs.Cutting.{cut_from, length_kept}
 use Rattle.devices.proofs.Keeping.{sector_rules}

@@ -1,4 +1,4 @@
-use Rattle.std.proofs.Common.{◌≡◌, ℕ, true, false, length, replicate, Ok, ap, ◌∙◌, rules}
+use Rattle.std.proofs.Common.{◌≡◌, ℕ, true, false, length, replicate, Ok, ap, rules}
 use lib.ListN.{length-replicate}
 use Rattle.devices.specs.Devices.{Held, serves}
 use Rattle.devices.specs.Sector.{sector, sector_name, sector_holds}

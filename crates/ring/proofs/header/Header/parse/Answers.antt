@@ -1,5 +1,4 @@
 use Rattle.std.proofs.Common.{◌≡◌, length, drop, ap, ◌∙◌, arith, length-drop, drop-drop}
-use Rattle.ring.specs.declared.header.Header.{Header}
 use Rattle.ring.specs.Headers.{header_of}
 use Rattle.ring.proofs.Numbers.{number_drop}
 use Rattle.ring.proofs.header.Header.parse.Goals as goal
