@@ -123,6 +123,5 @@ fn run(rt: &HostRuntime) -> anyhow::Result<()> {
 }
 
 fn main(rt: HostRuntime) -> anyhow::Result<()> {
-    let told = run(&rt);
-    told
+    run(&rt)
 }

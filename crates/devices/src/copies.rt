@@ -63,7 +63,7 @@ impl Power {
     // Takes a step of life, or is gone.
     pub fn serve(&mut self) -> bool
         ensures served { result ≡ (not self.old.gone && enough 1 self.old.life) }
-        ensures life { ((result ≡ true → self.new.life ≡ lessened 1 self.old.life)) × ((result ≡ false → self.new.life ≡ self.old.life)) }
+        ensures life { (result ≡ true → self.new.life ≡ lessened 1 self.old.life) × (result ≡ false → self.new.life ≡ self.old.life) }
         ensures gone { self.new.gone ≡ not result }
     {
         if self.gone {

@@ -6,7 +6,7 @@ ghost use Rattle.storage.specs.Sectors.{touched};
 ghost use Rattle.devices.specs.Sector.{sector as sector_kind, sector_name, sector_pick, sector_holds, upto, OnSectorMount};
 ghost use Rattle.storage.specs.Cells.{laid};
 ghost use Rattle.storage.specs.Lives.{lessened, enough};
-ghost use Rattle.storage.specs.Refusals.{step as step_of_lem};
+ghost use Rattle.storage.specs.Refusals.{step as link_step};
 ghost use Rattle.storage.specs.declared.life.Life.TheVariants.{Left};
 
 use crate::copies::{Copies, Power};
@@ -53,7 +53,7 @@ impl<'a> SectorDevice<'a> {
 }
 
 fn fault(offset: usize) -> Link
-    ensures { step_of_lem result ≡ record { name = sector_name; offset = offset } }
+    ensures { link_step result ≡ record { name = sector_name; offset = offset } }
 {
     Link {
         name: Name::Sector,

@@ -170,10 +170,7 @@ fn on_stack(rt: &HostRuntime) -> anyhow::Result<()> {
 }
 
 fn main(rt: HostRuntime) -> anyhow::Result<()> {
-    let told = on_image(&rt);
-    told?;
-    let told = on_sector_device(&rt);
-    told?;
-    let told = on_stack(&rt);
-    told
+    on_image(&rt)?;
+    on_sector_device(&rt)?;
+    on_stack(&rt)
 }
