@@ -5,7 +5,7 @@
 --                     of no bytes is handed down as it is; else it goes sector by sector
 --   Answers           a read or write: OUTSIDE first, and then nothing changes; `holding` says in
 --                     plain terms which sectors are held then
---   CacheDid         what it did at a call
+--   CacheDid          what it did at a call
 use Rattle.std.specs.Prelude.{◌≡◌, ℕ, ◌+◌, ◌<◌, ◌≤◌, true, false, List, length, is_ok, codes, Result}
 use Rattle.storage.specs.declared.refusal.LayerFault.{LayerFault}
 use Rattle.storage.specs.declared.refusal.Link.{Link}
