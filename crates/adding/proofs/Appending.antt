@@ -20,7 +20,7 @@ use Rattle.card.specs.Headers.{PutEnded}
 use Rattle.card.specs.Held.{Held, Done, Fell}
 use Rattle.adding.specs.Writes.{Cut}
 use Rattle.adding.specs.Elements.{Placed}
-use Rattle.adding.proofs.Ends.{head_sound, head_start, end_in}
+use Rattle.ring.proofs.Heads.{head_sound, head_start, end_in}
 
 -- the head with one record more keeps the bounds
 pub added_sound : (h : Head) (n : ℕ) → h.size ≤ 16777216 → h.used + (4 + n) ≤ h.header.ring →

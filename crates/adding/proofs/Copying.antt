@@ -1,36 +1,23 @@
 -- Bytes copied behind the ring, piece by piece.
-use Rattle.std.proofs.Common.{◌≡◌, ℕ, ◌+◌, ◌-◌, ◌*◌, ◌/◌, ◌<◌, ◌≤◌, min, ◌⊎◌, List, ◌++◌, length, take, drop, Ok, Err, Result, sym, refl, ap, ◌∙◌, inl, inr, arith}
-use Rattle.std.proofs.lemmas.List.{drop-drop}
+use Rattle.std.proofs.Math.Seq.{take-add}
+use Rattle.std.proofs.Common.{◌≡◌, ℕ, ◌+◌, ◌-◌, ◌*◌, ◌/◌, ◌<◌, ◌≤◌, min, ◌⊎◌, List, ◌++◌, length, take, drop, Ok, Err, sym, ap, ◌∙◌, inl, inr, arith}
+use Rattle.std.proofs.lemmas.List.{drop-drop, ext_get_or}
 use Rattle.std.proofs.lemmas.Bool.{cases_lt}
 use Rattle.storage.specs.Cells.{laid, part, length_part}
 use Rattle.storage.specs.Refusals.{Answer}
 use Rattle.storage.specs.Meaning.{Meaning}
-use Rattle.storage.specs.Calls.{Call, ReadDone, Reading, Writing, Syncing}
-use Rattle.storage.specs.Inside.{OnWriteInside}
+use Rattle.storage.specs.Calls.{Call, Reading, Writing, Syncing}
 use Rattle.storage.specs.Traces.{Asked}
-use Rattle.storage.proofs.Lists.{laid_apart, length_laid, laid_laid, laid_none, part_at, same}
-use Rattle.storage.proofs.Sectors.{take_split}
-use Rattle.storage.proofs.Answering.{still_read}
-use Rattle.storage.proofs.Traces.{asked_none, asked_then, asked_wider, asked_weaker}
+use Rattle.storage.proofs.Lists.{laid_apart, length_laid, laid_laid, part_at}
+use Rattle.storage.proofs.Sectors.{}
+use Rattle.storage.proofs.Traces.{asked_then, asked_wider, asked_weaker}
 use Rattle.adding.specs.Writes.{Went, Cut}
-use Rattle.adding.specs.Copies.{copies, CopyCall, Before, OnCopy}
-use Rattle.adding.proofs.Going.{went_self, went_went, went_cut, went_fewer, cut_fewer, write_went, write_cut, still_went}
-
-before_out : (to : ℕ) (b : List ℕ) (k : ℕ) → Before to k → (k < to) ⊎ (to + length b ≤ k)
-before_out to b k l = inl l
-
--- a piece that was read, and then written
-pub piece_copied : {G : Type 0} (from to n : ℕ) (buf : List ℕ) (m m₁ m₂ : Meaning) (r : Result (Unit {0}) G) → length buf ≡ n → ReadDone from buf m m₁ → OnWriteInside to buf m₁ m₂ r → OnCopy from to n m m₂ r
-piece_copied from to n buf m m₁ m₂ (Ok _) l d w = (
-  went_went (Before to) m m₁ m₂ (still_went (Before to) m m₁ (still_read from buf m m₁ d)) (write_went (Before to) to buf m₁ m₂ (before_out to buf) w),
-  w.visible ∙ ap (laid to buf) d.visible ∙ ap (λ (x : List ℕ). laid to x m.visible) (d.got ∙ ap (λ (k : ℕ). part from k m.visible) l),
-)
-piece_copied from to n buf m m₁ m₂ (Err f) l d w =
-    went_cut (Before to) m m₁ m₂ (still_went (Before to) m m₁ (still_read from buf m m₁ d)) (write_cut (Before to) to buf m₁ m₂ (before_out to buf) w)
+use Rattle.adding.specs.Copies.{copies, CopyCall, Before}
+use Rattle.adding.proofs.Going.{went_went, went_cut, went_fewer, cut_fewer}
 
 -- parts that follow each other
 part_split : (o n k : ℕ) (v : List ℕ) → part o n v ++ part (o + n) k v ≡ part o (n + k) v
-part_split o n k v = ap (λ (x : List ℕ). take n (drop o v) ++ take k x) (sym (drop-drop n o v)) ∙ take_split n k (drop o v)
+part_split o n k v = ap (λ (x : List ℕ). take n (drop o v) ++ take k x) (sym (drop-drop n o v)) ∙ sym (take-add n k (drop o v))
 
 -- the source of the next piece lies before the target
 source_same : (g n k : ℕ) (v : List ℕ) → 16 + (n + k) ≤ g → g + (n + k) ≤ length v → part (16 + n) k (laid g (part 16 n v) v) ≡ part (16 + n) k v
@@ -38,7 +25,7 @@ source_same g n k v below fits =
     let l = length_part 16 n v (omega arith) in
     let inside : g + length (part 16 n v) ≤ length v = omega arith in
     let long = length_laid g (part 16 n v) v inside in
-    same 0 (part (16 + n) k (laid g (part 16 n v) v)) (part (16 + n) k v)
+    ext_get_or 0 (part (16 + n) k (laid g (part 16 n v) v)) (part (16 + n) k v)
     (length_part (16 + n) k (laid g (part 16 n v) v) (omega arith) ∙ sym (length_part (16 + n) k v (omega arith)))
     (λ i x.
     let lk = length_part (16 + n) k (laid g (part 16 n v) v) (omega arith) in
@@ -67,16 +54,6 @@ module _ {S O G : Type 0} (means : S → Meaning) (did : S → Call → Answer O
     pub upto : done ≤ n
     pub whole : (done ≡ n) ⊎ (done ≡ 512 * (done / 512))
     pub calls : Asked did (CopyCall g) {A = Unit {0}} (copies done) (Ok tt) s t
-
-  pub copied_none : (g n : ℕ) (s : S) → (means s).in_order → Copied g n 0 s s
-  copied_none g n s o = record {
-    order = o;
-    went = went_self (Before g) (means s);
-    visible = sym (laid_none g (means s).visible);
-    upto = omega arith;
-    whole = inr refl;
-    calls = asked_none did (CopyCall g) {A = Unit {0}} (copies 0) tt s s refl;
-  }
 
   module _ (g n done k : ℕ) (s t u : S) (c : Copied g n done s t) (below : 16 + n ≤ g) (fits : g + n ≤ length (means s).visible) (more : done < n) (is : k ≡ min (n - done) 512) where
     two_more : copies done + 2 ≤ copies (done + k)

@@ -1,21 +1,21 @@
 -- An add that grows the ring first.
-use Rattle.std.proofs.Common.{◌≡◌, ℕ, ◌+◌, ◌<◌, ◌≤◌, leb, List, [], ◌∷◌, ◌++◌, Ok, Err, Result, sym, ap, ◌∙◌, subst, inl, inr, arith}
-use Rattle.std.proofs.lemmas.Bool.{both_ways, cond-false, lt-leb}
+use Rattle.std.proofs.Common.{◌≡◌, ℕ, ◌+◌, ◌<◌, ◌≤◌, leb, List, Bool, true, false, Ok, Err, Result, MatchResult, sym, subst, inl, inr, arith}
+use Rattle.std.proofs.lemmas.Bool.{lt-leb}
 use Rattle.storage.specs.Refusals.{Answer}
-use Rattle.storage.specs.Meaning.{Meaning}
 use Rattle.storage.specs.Calls.{Call}
 use Rattle.storage.specs.Traces.{Made, Asked}
 use Rattle.storage.proofs.Traces.{made_as}
 use Rattle.ring.specs.declared.head.Head.{Head}
 use Rattle.ring.specs.declared.header.Header.{Header}
-use Rattle.ring.specs.Steps.{carried, grown_header, grown, largest_ring, added, Grown}
+use Rattle.ring.specs.Steps.{carried, grown_header, largest_ring, Grown}
 use Rattle.ring.proofs.RingLengths.{grown_law, largest_law}
-use Rattle.card.specs.Held.{Done, Fell}
 use Rattle.adding.specs.Copies.{copies}
 use Rattle.adding.specs.Grows.{GrowCall}
-use Rattle.adding.specs.Appends.{append_calls, OnAppend}
-use Rattle.adding.specs.Adds.{need, longer, added_card, GrowsFirst, AddCallsBy, AddCalls, OnFit}
-use Rattle.adding.proofs.Ends.{head_sound, head_least}
+use Rattle.adding.specs.Appends.{append_calls}
+use Rattle.adding.specs.declared.refusal.AddRefusal.{AddRefusal}
+use Rattle.adding.specs.declared.refusal.AddRefusal.TheVariants.{Gone}
+use Rattle.adding.specs.Adds.{need, longer, GrowsFirst, AddCallsBy, AddCalls, OnAddCalls}
+use Rattle.ring.proofs.Heads.{head_sound, head_least}
 
 pub head_grown : (h : Head) (r : List ℕ) → h.size ≤ 16777216 → need h.used r ≤ largest_ring h.size → Grown h.size h.header.ring (need h.used r) (longer h.header h.used r)
 head_grown h r small room = grown_law h.size h.header.ring (need h.used r) small (head_sound h).ring (head_sound h).fits room
@@ -23,38 +23,6 @@ head_grown h r small room = grown_law h.size h.header.ring (need h.used r) small
 -- the largest ring is on the card
 pub largest_fits : (h : Head) → h.size ≤ 16777216 → largest_ring h.size ≤ h.size
 largest_fits h small = (largest_law h.size (omega (arith, head_least h, (head_sound h).fits)) small).fits
-
-module _ (h : Head) (rs : List (List ℕ)) (r : List ℕ) (m m₁ m₂ : Meaning) (short : h.header.ring < need h.used r) where
-  abbrev grown_card : List ℕ
-  grown_card = grown 16 h.header h.used (longer h.header h.used r) m.visible
-
-  abbrev next : Header
-  next = grown_header 16 h.header (longer h.header h.used r)
-
-  pub card_is : added_card h.header h.used r m.visible ≡ added 16 next h.used r grown_card
-  card_is = cond-false (leb (need h.used r) h.header.ring) _ _ (lt-leb (need h.used r) h.header.ring short)
-
-  pub grow_fell : Fell rs rs m m₁ → Fell rs (rs ++ (r ∷ [])) m m₁
-  grow_fell f = record { ended = f.ended; each = λ lives s st. elim (f.each lives s st) [ inl e ↦ inl e | inr e ↦ inl e ] }
-
-  module _ (h₁ : Head) (grew : Done grown_card h₁ rs m m₁) (eh : h₁.header ≡ next) (eu : h₁.used ≡ h.used) where
-    pub fit : {G : Type 0} (x : Result Head G) → OnAppend rs r h₁ m₁ m₂ x → OnFit rs r h m m₂ x
-    fit (Ok h₂) d =
-        let same : added 16 h₁.header h₁.used r m₁.visible ≡ added_card h.header h.used r m.visible =
-        ap (λ (y : Header). added 16 y h₁.used r m₁.visible) eh ∙ ap (λ (u : ℕ). added 16 next u r m₁.visible) eu ∙ ap (added 16 next h.used r) grew.visible ∙ sym card_is in
-        record {
-          served = record { lived = grew.served.lived; lives = d.served.lives; size = d.served.size ∙ grew.served.size };
-          visible = d.visible ∙ same;
-          only = d.only;
-          reads = d.reads;
-          size_is = d.size_is ∙ grew.served.size;
-          header_is = d.header_is;
-          used_is = d.used_is;
-        }
-    fit (Err f) d = record {
-      ended = record { size = d.ended.size ∙ grew.served.size; dead = d.ended.dead; already = λ z. absurd (both_ways m.lives z grew.served.lived) };
-      each = λ lives s st. d.each grew.served.lives s st;
-    }
 
 module _ {S O G : Type 0} (did : S → Call → Answer O G → S → Type 0) (h : Header) (u : ℕ) (r : List ℕ) (short : h.ring < need u r) where
   as_grown : {A : Type 0} (x : Result A G) (s s' : S) → GrowsFirst did h u r x s s' → AddCalls did h u r x s s'
@@ -67,3 +35,18 @@ module _ {S O G : Type 0} (did : S → Call → Answer O G → S → Type 0) (h 
       Made did (append_calls (grown_header 16 h (longer h u r)) u r) x t v → AddCalls did h u r x s v
   append_after (Ok a) s t v g d = as_grown (Ok a) s v (t, g, d)
   append_after {A = A} (Err f) s t v g d = as_grown {A = A} (Err f) s v (inr (t, g, made_as did A (Unit {0}) _ f t v d))
+
+module _ {S O G : Type 0} (did : S → Call → Answer O G → S → Type 0) (h : Header) (u : ℕ) (r : List ℕ) (s s' : S) where
+  -- a value that is given back says nothing of the calls
+  given_calls : {A B : Type 0} (a : A) (b : B) (t : Bool) → AddCallsBy did h u r {A = A} t (Ok a) s s' → AddCallsBy did h u r {A = B} t (Ok b) s s'
+  given_calls a b true d = d
+  given_calls a b false d = d
+
+  fault_calls : (A B : Type 0) (f : G) (t : Bool) → AddCallsBy did h u r {A = A} t (Err f) s s' → AddCallsBy did h u r {A = B} t (Err f) s s'
+  fault_calls A B f true d = made_as did A B _ f s s' d
+  fault_calls A B f false d = d
+
+  -- an add's answer, from that of its calls
+  pub told_calls : (x : Result Head G) (y : Result Head (AddRefusal G)) → MatchResult x (λ a. y ≡ Ok a) (λ f. y ≡ Err (Gone f)) → AddCalls did h u r x s s' → OnAddCalls did h u r s s' y
+  told_calls (Ok a) y e d = subst (OnAddCalls did h u r s s') (sym e) (given_calls a tt (leb (need u r) h.ring) d)
+  told_calls (Err f) y e d = subst (OnAddCalls did h u r s s') (sym e) (fault_calls Head (Unit {0}) f (leb (need u r) h.ring) d)

@@ -3,7 +3,6 @@ use Rattle.std.proofs.Common.{ℕ, ◌+◌, ◌<◌, ◌≤◌, ◌⊎◌, List,
 use Rattle.std.proofs.lemmas.Bool.{both_ways}
 use Rattle.storage.specs.Meaning.{Meaning}
 use Rattle.storage.specs.Calls.{Arrives, WriteDone, WriteEnded, SyncEnded}
-use Rattle.storage.specs.Inside.{Still, Lost}
 use Rattle.storage.proofs.Answering.{same_self, same_trans}
 use Rattle.adding.specs.Writes.{Agrees, Near, Went, Cut}
 
@@ -59,12 +58,6 @@ module _ (P : ℕ → Type 0) (o : ℕ) (b : List ℕ) (m m' : Meaning) (out : (
   pub write_cut : WriteEnded o b m m' → Cut P m m'
   write_cut d = record { ended = d.ended; stands = arrives_near d.stands }
 
--- a read, and a sync that was GONE, leave all bytes alone
-pub still_went : (P : ℕ → Type 0) (m m' : Meaning) → Still m m' → Went P m m'
-still_went P m m' s = record { size = s.size; lives = s.lives; already = s.already; stands = λ t h. (t, s.stands t h, agrees_self P t) }
-
-pub lost_cut : (P : ℕ → Type 0) (m m' : Meaning) → Lost m m' → Cut P m m'
-lost_cut P m m' l = record { ended = l.ended; stands = λ s h. (s, l.stands s h, agrees_self P s) }
-
+-- a sync that was GONE leaves all bytes alone
 pub sync_cut : (P : ℕ → Type 0) (m m' : Meaning) → SyncEnded m m' → Cut P m m'
 sync_cut P m m' d = record { ended = d.ended; stands = λ s h. (s, d.stands s h, agrees_self P s) }

@@ -25,7 +25,7 @@ use Rattle.adding.specs.Writes.{Went, Cut}
 use Rattle.adding.specs.Copies.{Before, CopyCall}
 use Rattle.adding.specs.Grows.{GrowCall}
 use Rattle.adding.proofs.Going.{went_cut, sync_cut}
-use Rattle.adding.proofs.Ends.{head_sound, head_least}
+use Rattle.ring.proofs.Heads.{head_sound, head_least}
 
 pub head_carried : (h : Head) → 16 + carried 16 h.header h.used ≤ h.header.ring
 head_carried h = elim (carried_cases 16 h.header h.used) [

@@ -1,27 +1,19 @@
 -- Bytes laid along the ring, in one piece and in two.
-use Rattle.std.proofs.Common.{◌≡◌, ℕ, ◌+◌, ◌-◌, ◌<◌, ◌≤◌, leb, ◌⊎◌, List, [], ◌∷◌, length, take, drop, Ok, Err, Result, sym, ap, ◌∙◌, subst, inl, inr, arith, length-drop, length-take}
-use Rattle.std.proofs.lemmas.Bool.{cond-true, cond-false, le-leb, lt-leb}
+use Rattle.std.proofs.Common.{◌≡◌, ℕ, ◌+◌, ◌-◌, ◌<◌, ◌≤◌, ◌⊎◌, List, [], length, take, drop, Ok, Err, Result, sym, ap, ◌∙◌, subst, inl, inr, arith, length-drop, length-take}
 use Rattle.storage.specs.Cells.{laid}
 use Rattle.storage.specs.Meaning.{Meaning}
 use Rattle.storage.proofs.Lists.{laid_none}
-use Rattle.storage.specs.Calls.{Call, Writing, WriteDone}
+use Rattle.storage.specs.Calls.{Call, WriteDone}
 use Rattle.storage.specs.Inside.{OnWriteInside}
 use Rattle.storage.specs.Refusals.{Answer}
 use Rattle.storage.specs.Traces.{Made}
+use Rattle.ring.specs.declared.place.Place.{Place}
 use Rattle.ring.specs.Ring.{place}
 use Rattle.ring.specs.Steps.{laid_along}
 use Rattle.ring.proofs.Places.{place_cases}
 use Rattle.ring.proofs.Laying.{laid_whole, laid_round, outside_piece}
 use Rattle.adding.specs.Writes.{pieces, Apart, OnLay}
 use Rattle.adding.proofs.Going.{went_went, went_cut, write_went, write_cut}
-
-pub pieces_one : (g p : ℕ) (bytes : List ℕ) → 0 < length bytes → p + length bytes ≤ g → pieces g p bytes ≡ Writing p bytes ∷ []
-pieces_one g p [] some fits = absurd (omega arith)
-pieces_one g p (x ∷ xs) some fits = cond-true (leb (p + length (x ∷ xs)) g) _ _ (le-leb (p + length (x ∷ xs)) g fits)
-
-pub pieces_two : (g p : ℕ) (bytes : List ℕ) → g < p + length bytes → p < g → pieces g p bytes ≡ Writing p (take (g - p) bytes) ∷ Writing 16 (drop (g - p) bytes) ∷ []
-pieces_two g p [] cross from = absurd (omega arith)
-pieces_two g p (x ∷ xs) cross from = cond-false (leb (p + length (x ∷ xs)) g) _ _ (lt-leb (p + length (x ∷ xs)) g cross)
 
 -- the pieces of n bytes from p on, and what is apart from these
 front_apart : (g p n m k : ℕ) → m ≤ n → p + m ≤ g → 16 ≤ p → p < g → Apart g p n k → (k < p) ⊎ (p + m ≤ k)
@@ -77,9 +69,11 @@ lay_none g p bytes b high e =
     laid_whole 16 g p bytes b none ∙ ap (λ (x : List ℕ). laid p x b) e ∙ laid_none p b
 
 -- what was laid, by equal places and bytes
-pub lay_at : {G : Type 0} (g p q : ℕ) (a b : List ℕ) (m m' : Meaning) (r : Result (Unit {0}) G) → p ≡ q → a ≡ b → OnLay g p a m m' r → OnLay g q b m m' r
-lay_at g p q a b m m' r e f d = subst (λ (x : List ℕ). OnLay g q x m m' r) f (subst (λ (k : ℕ). OnLay g k a m m' r) e d)
+pub lay_at : {G : Type 0} (p : Place) (g q : ℕ) (a b : List ℕ) (m m' : Meaning) (r : Result (Unit {0}) G) → p.ring ≡ g → p.at ≡ q → a ≡ b → OnLay p.ring p.at a m m' r → OnLay g q b m m' r
+lay_at p g q a b m m' r z e f d = subst (λ (x : List ℕ). OnLay g q x m m' r) f (subst (λ (k : ℕ). OnLay g k a m m' r) e (subst (λ (n : ℕ). OnLay n p.at a m m' r) z d))
 
-pub pieces_at : {S O G : Type 0} (did : S → Call → Answer O G → S → Type 0) (g p q : ℕ) (a b : List ℕ) (s t : S) (r : Result (Unit {0}) G) → p ≡ q → a ≡ b →
-    Made did (pieces g p a) r s t → Made did (pieces g q b) r s t
-pieces_at did g p q a b s t r e f d = subst (λ (x : List ℕ). Made did (pieces g q x) r s t) f (subst (λ (k : ℕ). Made did (pieces g k a) r s t) e d)
+pub pieces_at : {S O G : Type 0} (did : S → Call → Answer O G → S → Type 0) (p : Place) (g q : ℕ) (a b : List ℕ) (s t : S) (r : Result (Unit {0}) G) → p.ring ≡ g → p.at ≡ q → a ≡ b →
+    Made did (pieces p.ring p.at a) r s t → Made did (pieces g q b) r s t
+pieces_at did p g q a b s t r z e f d =
+    subst (λ (x : List ℕ). Made did (pieces g q x) r s t) f
+    (subst (λ (k : ℕ). Made did (pieces g k a) r s t) e (subst (λ (n : ℕ). Made did (pieces n p.at a) r s t) z d))

@@ -10,7 +10,8 @@ use Rattle.ring.proofs.Elements.{length_four}
 use Rattle.adding.specs.Writes.{Apart, Went, Cut, OnLay}
 use Rattle.adding.specs.Elements.{OnElement}
 use Rattle.adding.proofs.Going.{went_went, went_cut, went_fewer, cut_fewer, sync_cut}
-use Rattle.adding.proofs.Ends.{end_in, place_apart}
+use Rattle.ring.proofs.Heads.{end_in}
+use Rattle.adding.proofs.Ends.{place_apart}
 
 module _ (h : Head) (r : List ℕ) (room : h.used + (4 + length r) ≤ h.header.ring) where
   abbrev g : ℕ

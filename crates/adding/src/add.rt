@@ -28,6 +28,7 @@ fn add_fitting<S: Storage>(s: &mut S, head: Head, bytes: &[u8]) -> Result<Head, 
     if need <= head.header.ring as usize {
         return append(s, head, bytes);
     }
+    // A ring's length is a 32-bit number, so it fits.
     let head = grow(s, head, grown_length(head.header.ring, need) as u32)?;
     append(s, head, bytes)
 }
@@ -46,8 +47,5 @@ pub fn add<S: Storage>(s: &mut S, head: Head, bytes: &[u8]) -> Result<Head, AddR
     if head.used + LENGTH + n > largest_ring(head.size) {
         return Err(AddRefusal::Full(LENGTH + n));
     }
-    match add_fitting(s, head, bytes) {
-        Ok(head) => Ok(head),
-        Err(fault) => Err(AddRefusal::Gone(fault)),
-    }
+    add_fitting(s, head, bytes).map_err(AddRefusal::Gone)
 }

@@ -1,33 +1,14 @@
 // A record behind the last one, where the ring has room for it.
-ghost use Rattle.std.specs.Prelude.{◌≡◌, ℕ, ◌+◌, ◌≤◌, List, length};
+ghost use Rattle.std.specs.Prelude.{ℕ, ◌+◌, ◌≤◌, List, length};
 ghost use Rattle.storage.specs.Traces.{Made};
-ghost use Rattle.ring.specs.Layout.{header_width};
-ghost use Rattle.ring.specs.Steps.{added_header};
 ghost use Rattle.card.specs.Held.{Held};
 ghost use Rattle.adding.specs.Appends.{append_calls, OnAppend};
 
-use crate::element::{end_of, place_of, put_element, start_of};
+use crate::element::put_element;
 use card::header::put_header;
 use ring::head::Head;
-use ring::header::Header;
 use ring::walking::LENGTH;
 use storage::storage::Storage;
-
-// The header that counts one element more, at the end.
-fn header_after(head: Head) -> Header
-    requires { head.used + 4 ≤ head.header.ring }
-    ensures { result ≡ added_header header_width head.header head.used }
-{
-    let ring = head.header.ring;
-    let first = start_of(head) as u32;
-    let last = place_of(ring as usize, end_of(head)) as u32;
-    Header {
-        ring,
-        count: head.header.count + 1,
-        first,
-        last,
-    }
-}
 
 // The element is settled before the header that counts it is written.
 pub fn append<S: Storage>(s: &mut S, head: Head, bytes: &[u8]) -> Result<Head, S::Gone>
@@ -39,8 +20,9 @@ pub fn append<S: Storage>(s: &mut S, head: Head, bytes: &[u8]) -> Result<Head, S
     ensures calls { Made S.Storage.did (append_calls head.header head.used bytes.now) result s.old s.new }
 {
     put_element(s, head, bytes)?;
-    let header = header_after(head);
+    let header = head.added_header();
     put_header(s, header)?;
+    // Written out: `..head` does not take a type with ghost fields.
     Ok(Head {
         size: head.size,
         header,

@@ -11,6 +11,9 @@ use storage::storage::Storage;
 // The bytes that are copied at a time.
 pub const PIECE: usize = 512;
 
+// Each step asks that its source ends before its target, and that within the card: both tie numbers
+// to the storage, and so are no fact of a type.
+
 // Copies as many bytes as the buffer holds.
 fn copy_through<S: Storage>(
     s: &mut S,
@@ -52,11 +55,9 @@ pub fn copy_out<S: Storage>(s: &mut S, ring: usize, n: usize) -> Result<(), S::G
     ensures does { OnCopy header_width ring n (S.Storage.means s.old) (S.Storage.means s.new) result }
     ensures calls { Asked S.Storage.did (CopyCall ring) (copies n) result s.old s.new }
 {
-    let mut done = 0;
-    while done < n {
+    for done in (0..n).step_by(PIECE) {
         let k = (n - done).min(PIECE);
         copy_piece(s, HEADER + done, ring + done, k)?;
-        done += k;
     }
     Ok(())
 }

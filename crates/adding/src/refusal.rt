@@ -12,6 +12,7 @@ pub enum AddRefusal<F> {
 }
 
 impl<F> AddRefusal<F> {
+    // Its number in the table of refusals; the code knows refusals by this enum.
     pub fn number(&self) -> u8
         ensures { result ≡ number self.now }
     {

@@ -1,19 +1,15 @@
 -- A range, piece by piece.
-use Rattle.std.proofs.Common.{◌≡◌, ℕ, ◌+◌, ◌-◌, ◌*◌, ◌/◌, ◌%◌, ◌<◌, ◌≤◌, min, ◌⊎◌, List, ◌++◌, length, take, drop, sym, ap, ◌∙◌, subst, inl, inr, add-one, arith, length-take}
+use Rattle.std.proofs.Math.Seq.{take-add}
+use Rattle.std.proofs.Common.{◌≡◌, ℕ, ◌+◌, ◌-◌, ◌*◌, ◌/◌, ◌%◌, ◌≤◌, min, ◌⊎◌, List, ◌++◌, length, take, drop, sym, ap, ◌∙◌, subst, inl, inr, add-one, arith, length-take}
 use Rattle.std.proofs.lemmas.List.{drop-drop, take-append-drop}
 use Rattle.std.proofs.lemmas.Bool.{cases_lt}
-use Rattle.storage.specs.Cells.{part, Partly}
+use Rattle.storage.specs.Cells.{laid, part, Partly}
 use Rattle.storage.specs.Sectors.{touched}
 use Rattle.storage.specs.Meaning.{Meaning}
 use Rattle.storage.specs.Calls.{Arrives}
 use Rattle.storage.proofs.Arriving.{partly_none, partly_join}
-use Rattle.storage.proofs.Sectors.{Even, touched_some, touched_none, take_split}
+use Rattle.storage.proofs.Sectors.{Even, touched_some, touched_none, piece_more}
 use Rattle.cache.specs.Chains.{Walk, begins, piece}
-
--- while bytes are left, those that are done end with a sector
-pub evenly : (o done n : ℕ) → done < n → Even o done ⊎ (done ≡ n) → Even o done
-evenly o done n lt (inl e) = e
-evenly o done n lt (inr e) = absurd (omega arith)
 
 -- the sector that comes next
 pub sector_next : (o done : ℕ) → Even o done → o / 512 + touched o done ≡ (o + done) / 512
@@ -40,8 +36,12 @@ piece_next o done m b e is =
     ∙ ap (λ (x : ℕ). take (min (512 - (o + done) % 512) (length b - x)) (drop x b)) (omega arith)
     ∙ ap (λ (x : ℕ). take x (drop done b)) (sym is)
 
+-- the bytes after one piece more
+pub bytes_more : (o n m : ℕ) (b v : List ℕ) → n + m ≤ length b → o + length b ≤ length v → laid (o + n) (take m (drop n b)) (laid o (take n b) v) ≡ laid o (take (n + m) b) v
+bytes_more o n m b v le fits = ap (λ (k : ℕ). laid (o + n) (take k (drop n b)) (laid o (take n b) v)) (omega arith) ∙ piece_more o n m b v le fits
+
 pub part_more : (o n m : ℕ) (v : List ℕ) → part o n v ++ part (o + n) m v ≡ part o (n + m) v
-part_more o n m v = ap (λ (x : List ℕ). take n (drop o v) ++ take m x) (sym (drop-drop n o v)) ∙ take_split n m (drop o v)
+part_more o n m v = ap (λ (x : List ℕ). take n (drop o v) ++ take m x) (sym (drop-drop n o v)) ∙ sym (take-add n m (drop o v))
 
 -- a piece that arrives behind what arrived before
 module _ (o n : ℕ) (b : List ℕ) (m₀ m₁ m₂ : Meaning) (le : n ≤ length b) (even : Even o n) (before : Arrives o (take n b) m₀ m₁) where
@@ -62,7 +62,7 @@ module _ (o n : ℕ) (b : List ℕ) (m₀ m₁ m₂ : Meaning) (le : n ≤ lengt
   arrives_more m fits next s h =
       let y = next s h in
       let x = before y.0 y.1 in
-      (x.0, x.1, subst (λ (z : List ℕ). Partly 16 o z x.0 s) (take_split n m b) (join (take m (drop n b)) x.0 y.0 s x.2 y.2))
+      (x.0, x.1, subst (λ (z : List ℕ). Partly 16 o z x.0 s) (sym (take-add n m b)) (join (take m (drop n b)) x.0 y.0 s x.2 y.2))
 
   -- where no more of it arrives
   pub arrives_part : ((s : List ℕ) → m₂.stands s → m₁.stands s) → Arrives o b m₀ m₂

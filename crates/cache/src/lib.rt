@@ -5,9 +5,9 @@
 // line or a sync writes them down.
 #![tactic(auto)]
 
-mod answer;
 pub mod cache;
 mod line;
+mod lines;
 pub mod making;
+mod slot;
 pub mod storing;
-mod table;

@@ -1,10 +1,11 @@
 // Making a cache, and cutting the power below it.
-ghost use Rattle.std.specs.Prelude.{◌≡◌, false};
+ghost use Rattle.std.specs.Prelude.{◌≡◌, false, map};
+ghost use Rattle.cache.specs.Lines.{emptied};
 ghost use Rattle.cache.specs.Made.{Made, Blank};
 
 use crate::cache::Cache;
-use crate::line::Line;
-use crate::table::Table;
+use crate::lines::{Lines, MOST_LINES};
+use crate::slot::Slot;
 use storage::cuttable::Cuttable;
 use storage::refusal::BadMount;
 use storage::storage::Storage;
@@ -15,35 +16,34 @@ impl<S: Storage> Cache<S> {
         requires { (S.Storage.means below).in_order }
         ensures { Made S.Storage.means below lines result }
     {
-        if lines < 1 || lines > 16 {
+        if !(1..=MOST_LINES).contains(&lines) {
             return Err(BadMount { given: below });
         }
-        Ok(Cache {
+        let inner = Lines {
             below,
-            table: Table { bytes: [0; 8192] },
-            dir: [Line::Empty; 16],
+            slots: [Slot::EMPTY; MOST_LINES],
             lines,
-            gone: false,
-        })
+        };
+        Ok(Cache { inner, gone: false })
     }
 }
 
 impl<S: Cuttable> Cuttable for Cache<S> {
-    ghost life = { λ c. S.Cuttable.life c.below };
+    ghost life = { λ c. S.Cuttable.life c.inner.below };
 
-    ghost keeps = { λ c. S.Cuttable.keeps c.below };
+    ghost keeps = { λ c. S.Cuttable.keeps c.inner.below };
 
-    ghost sets = { λ c n d. S.Cuttable.sets c.below n d.below × (d ≡ record { below = d.below; table = c.table; dir = c.dir; lines = c.lines; gone = c.gone }) };
+    ghost sets = { λ c n d. S.Cuttable.sets c.inner.below n d.inner.below × (d ≡ record { inner = record { below = d.inner.below; slots = c.inner.slots; lines = c.inner.lines }; gone = c.gone }) };
 
-    ghost cuts = { λ c cs d. S.Cuttable.cuts c.below cs d.below × Blank d.dir × (d ≡ record { below = d.below; table = c.table; dir = d.dir; lines = c.lines; gone = false }) };
+    ghost cuts = { λ c cs d. S.Cuttable.cuts c.inner.below cs d.inner.below × Blank d.inner.slots × (d ≡ record { inner = record { below = d.inner.below; slots = map emptied c.inner.slots; lines = c.inner.lines }; gone = false }) };
 
     fn set_life(&mut self, steps: u64) {
-        self.below.set_life(steps);
+        self.inner.below.set_life(steps);
     }
 
     fn cut(&mut self, choices: &[u8]) -> Result<(), BadMount<()>> {
-        self.below.cut(choices)?;
-        self.dir = [Line::Empty; 16];
+        self.inner.below.cut(choices)?;
+        self.inner.clear();
         self.gone = false;
         Ok(())
     }

@@ -1,35 +1,12 @@
 // The cache is a storage over any storage.
 ghost use Rattle.std.specs.Prelude.{◌≡◌};
 ghost use Rattle.cache.specs.Cached.{means_of, cache_lawful};
-ghost use Rattle.cache.specs.Did.{cache_name, CacheDid, Lifts};
-ghost use Rattle.storage.specs.Refusals.{step};
+ghost use Rattle.cache.specs.Did.{cache_name, CacheDid};
 
 use crate::cache::Cache;
+use storage::layer::{check_range, lift};
 use storage::refusal::{LayerFault, Link, Name, Refusal};
-use storage::sizes::passes;
 use storage::storage::Storage;
-
-fn link(offset: usize) -> Link
-    ensures { step result ≡ record { name = cache_name; offset = offset } }
-{
-    Link {
-        name: Name::Cache,
-        offset,
-    }
-}
-
-// The answer with the cache's own link on top of a fault from below.
-fn lift<G>(offset: usize, res: Result<(), G>) -> Result<(), Refusal<Link, LayerFault<G>>>
-    ensures { Lifts offset res result }
-{
-    match res {
-        Ok(()) => Ok(()),
-        Err(below) => Err(Refusal::Gone(LayerFault {
-            link: link(offset),
-            below,
-        })),
-    }
-}
 
 impl<S: Storage> Storage for Cache<S> {
     type Outside = Link;
@@ -40,12 +17,12 @@ impl<S: Storage> Storage for Cache<S> {
 
     ghost means = { means_of S.Storage.means };
 
-    ghost lawful = { λ c. cache_lawful c.dir c.table.bytes c.lines c.gone (S.Storage.means c.below) (S.Storage.lawful c.below) };
+    ghost lawful = { λ c. cache_lawful c.inner.slots c.inner.lines c.gone (S.Storage.means c.inner.below) (S.Storage.lawful c.inner.below) };
 
     ghost did = { CacheDid S.Storage.did S.Storage.means };
 
     fn size(&self) -> usize {
-        self.below.size()
+        self.inner.below.size()
     }
 
     fn read(
@@ -53,10 +30,8 @@ impl<S: Storage> Storage for Cache<S> {
         offset: usize,
         buf: &mut [u8],
     ) -> Result<(), Refusal<Link, LayerFault<S::Gone>>> {
-        if passes(self.below.size(), offset, buf.len()) {
-            return Err(Refusal::Outside(link(offset)));
-        }
-        lift(offset, self.read_inside(offset, buf))
+        check_range(Name::Cache, self.inner.below.size(), offset, buf.len())?;
+        lift(Name::Cache, offset, self.read_inside(offset, buf))
     }
 
     fn write(
@@ -64,13 +39,11 @@ impl<S: Storage> Storage for Cache<S> {
         offset: usize,
         bytes: &[u8],
     ) -> Result<(), Refusal<Link, LayerFault<S::Gone>>> {
-        if passes(self.below.size(), offset, bytes.len()) {
-            return Err(Refusal::Outside(link(offset)));
-        }
-        lift(offset, self.write_inside(offset, bytes))
+        check_range(Name::Cache, self.inner.below.size(), offset, bytes.len())?;
+        lift(Name::Cache, offset, self.write_inside(offset, bytes))
     }
 
     fn sync(&mut self) -> Result<(), Refusal<Link, LayerFault<S::Gone>>> {
-        lift(0, self.settle())
+        lift(Name::Cache, 0, self.settle())
     }
 }

@@ -1,7 +1,8 @@
 -- Reads of the ring in one piece and in two.
-use Rattle.std.proofs.Common.{◌≡◌, ℕ, ◌+◌, ◌-◌, ◌*◌, ◌<◌, ◌≤◌, List, ◌++◌, length, get_or, Ok, Err, Result, sym, ap, ◌∙◌, arith, rules}
+use Rattle.std.proofs.Common.{◌≡◌, ℕ, ◌+◌, ◌-◌, ◌*◌, ◌<◌, ◌≤◌, List, ◌++◌, length, get_or, Ok, Err, Result, is_err, false, sym, ap, ◌∙◌, arith, rules}
 use borrow.Rule.Slice.PartMut.{put_mid}
 use Rattle.std.proofs.lemmas.Slice.{overwrites}
+use Rattle.std.proofs.lemmas.Bool.{true≢false}
 use Rattle.storage.specs.Cells.{part}
 use Rattle.storage.specs.Meaning.{Meaning, Lawful}
 use Rattle.storage.specs.Calls.{ReadDone}
@@ -30,9 +31,13 @@ module _ {G : Type 0} where
       (still_still m m₁ m₂ (still_read o a m m₁ d) (still_read 16 b m₁ m₂ w), e ∙ ap (λ (x : List ℕ). x ++ b) first ∙ ap (λ (x : List ℕ). part o n m.visible ++ x) second)
   two_pieces o n old a back b new m m₁ m₂ (Err f) ea eb ec e d w = still_lost m m₁ m₂ (still_read o a m m₁ d) (lost_read 16 back b m₁ m₂ w)
 
-pub around : (G : Type 0) (g p : ℕ) (old new : List ℕ) (m m' : Meaning) → Lawful m → g ≤ m.size → p < g → g - p ≤ length old → 16 + length old ≤ g →
-    OnTwo {G = G} p (g - p) old new m m' (Ok tt) → OnAlong {G = G} g p old new m m' (Ok tt)
-around G g p old new m m' law z l n o d = (d.0, d.1 ∙ stretch_two 16 g m.visible p (length old) (omega arith) n o (omega (arith, law.long)))
+pub around : (G : Type 0) (g p room : ℕ) (old new : List ℕ) (m m' : Meaning) (r : Result (Unit {0}) G) → is_err r ≡ false → room ≡ g - p → Lawful m → g ≤ m.size → p < g → g - p ≤ length old → 16 + length old ≤ g →
+    OnTwo {G = G} p room old new m m' r → OnAlong {G = G} g p old new m m' r
+around G g p room old new m m' (Ok _) served e law z l n o d = (
+  d.0,
+  d.1 ∙ ap (λ (k : ℕ). part p k m.visible ++ part 16 (length old - k) m.visible) e ∙ stretch_two 16 g m.visible p (length old) (omega arith) n o (omega (arith, law.long)),
+)
+around G g p room old new m m' (Err f) served e law z l n o d = absurd (true≢false served)
 
 -- four bytes that were read make the number there
 pub number_read : (f : ℕ → ℕ) (p n : ℕ) (buf : List ℕ) → buf ≡ stretch f p 4 → n ≡ get_or buf 0 0 * 16777216 + get_or buf 1 0 * 65536 + get_or buf 2 0 * 256 + get_or buf 3 0 → n ≡ number f p

@@ -7,8 +7,8 @@ use Rattle.storage.specs.Meaning.{Meaning}
 use Rattle.storage.specs.Calls.{Call}
 use Rattle.storage.specs.Inside.{Still}
 use Rattle.storage.specs.Traces.{Asked}
-use Rattle.storage.proofs.Answering.{still_self, still_still, still_lost}
-use Rattle.storage.proofs.Traces.{asked_none, asked_then, asked_wider}
+use Rattle.storage.proofs.Answering.{still_still, still_lost}
+use Rattle.storage.proofs.Traces.{asked_then, asked_wider}
 use Rattle.ring.specs.declared.header.Header.{Header}
 use Rattle.ring.specs.declared.walk.Walk.{Walk}
 use Rattle.ring.specs.Bytes.{number, stretch}
@@ -40,18 +40,6 @@ module _ {S O G : Type 0} (means : S → Meaning) (did : S → Call → Answer O
     pub header_stays : k'.header ≡ k.header
     pub used_is : k'.used ≡ k.used + taken rs
     pub calls : Asked did (ReadsUpTo 4) {A = Unit {0}} (2 * k'.passed) (Ok tt) s t
-
-  pub reach_none : (s : S) (k : Walk) → (means s).in_order → Reach s s k k
-  reach_none s k o = record {
-    order = o;
-    still = still_self (means s);
-    rs = [];
-    found = refl;
-    size_stays = refl;
-    header_stays = refl;
-    used_is = omega arith;
-    calls = asked_none did (ReadsUpTo 4) {A = Unit {0}} (2 * k.passed) tt s s refl;
-  }
 
   module _ (s t u : S) (k k' k'' : Walk) (reach : Reach s t k k') where
     -- the bytes along the ring are still the same

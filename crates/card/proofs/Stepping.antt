@@ -1,12 +1,14 @@
 -- The next element of a walk, from the length that was read.
-use Rattle.std.proofs.Common.{◌≡◌, ℕ, ◌+◌, ◌-◌, ◌*◌, ◌/◌, ◌<◌, ◌≤◌, true, false, leb, List, ap, ◌∙◌, inl, inr, arith}
+use Rattle.std.proofs.Common.{◌≡◌, ℕ, ◌+◌, ◌-◌, ◌*◌, ◌/◌, ◌<◌, ◌≤◌, true, false, leb, List, Ok, Err, Result, ap, ◌∙◌, subst, inl, inr, arith}
 use Rattle.std.proofs.lemmas.Bool.{cases_Bool, cond-true, cond-false, leb-true}
+use Rattle.storage.specs.Meaning.{Meaning}
+use Rattle.storage.specs.Inside.{Still, OnStep}
+use Rattle.ring.specs.declared.place.Place.{Place}
 use Rattle.ring.specs.declared.walk.Walk.{Walk}
 use Rattle.ring.specs.Bytes.{number, stretch}
 use Rattle.ring.specs.Ring.{place, along}
 use Rattle.ring.specs.Reading.{before}
 use Rattle.ring.specs.Walking.{position, rest, Passed}
-use Rattle.ring.proofs.Places.{place_in}
 use Rattle.ring.proofs.Stretches.{number_place}
 use Rattle.ring.proofs.Walks.{walk_in, walk_sound, rest_passed}
 use Rattle.card.specs.Surveys.{reads_next, Nexted}
@@ -17,21 +19,20 @@ two_reads k e = cond-true (leb (k.used + 4) k.header.ring) 2 0 e
 pub no_reads : (k : Walk) → leb (k.used + 4) k.header.ring ≡ false → reads_next k ≡ 0
 no_reads k e = cond-false (leb (k.used + 4) k.header.ring) 2 0 e
 
-pub next_in : (k : Walk) (p : ℕ) → k.passed < k.header.count → p ≡ place 16 k.header.ring (position k) → (16 ≤ p) × (p < k.header.ring)
-next_in k p more e =
-    let i = walk_in k (omega arith) in
-    let x = place_in 16 k.header.ring (position k) i.0 i.1 in
-    (omega arith, omega arith)
+-- a step that was answered x
+pub step_ok : {A G : Type 0} (Q : A → Type 0) (m m' : Meaning) (r : Result A G) (x : A) → OnStep Q m m' r → r ≡ Ok x → Still m m' × Q x
+step_ok Q m m' (Ok y) x d is = let same : y ≡ x = cc in (d.0, subst Q same d.1)
+step_ok Q m m' (Err f) x d is = cc
 
 -- the length field, read at the place of the next element
-pub length_read : (k : Walk) (b : List ℕ) (n p : ℕ) → k.passed < k.header.count → leb (k.used + 4) k.header.ring ≡ true → p ≡ place 16 k.header.ring (position k) →
-    n ≡ number (along 16 k.header.ring b) p → n ≡ number (along 16 k.header.ring b) (position k)
-length_read k b n p more room e is =
+pub length_read : (k : Walk) (p : Place) (b : List ℕ) (n : ℕ) → k.passed < k.header.count → leb (k.used + 4) k.header.ring ≡ true → p.ring ≡ k.header.ring → p.at ≡ place 16 k.header.ring (position k) →
+    n ≡ number (along 16 p.ring b) p.at → n ≡ number (along 16 k.header.ring b) (position k)
+length_read k p b n more room er e is =
     let g = k.header.ring in
     let i = walk_in k (omega arith) in
     let r = leb-true (k.used + 4) g room in
     let s = (walk_sound k).from (omega arith) in
-    is ∙ ap (number (along 16 g b)) e ∙ number_place 16 g b (position k) i.0 (omega (arith, k.least))
+    is ∙ ap (λ (z : ℕ). number (along 16 z b) p.at) er ∙ ap (number (along 16 g b)) e ∙ number_place 16 g b (position k) i.0 (omega (arith, k.least))
 
 pub nexted : (f : ℕ → ℕ) (k k' : Walk) (n : ℕ) → n ≡ number f (position k) → Passed n k k' → Nexted f k k'
 nexted f k k' n e p = record {

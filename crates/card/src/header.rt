@@ -19,10 +19,7 @@ pub fn read_header<S: Storage>(s: &mut S) -> Result<Header, S::Gone>
 {
     let mut cell = [0u8; HEADER];
     read_inside(s, 0, &mut cell)?;
-    match Header::parse(&cell) {
-        Some(header) => Ok(header),
-        None => unreachable(),
-    }
+    Ok(Header::parse(&cell).unwrap())
 }
 
 // Writes a header in one piece, so that it arrives whole or not at all, and settles it.

@@ -23,23 +23,17 @@ fn pass_next<S: Storage>(s: &mut S, walk: &mut Walk) -> Result<(), OpenRefusal<S
     ensures does { OnNext walk.old walk.new (S.Storage.means s.old) (S.Storage.means s.new) result }
     ensures calls { Asked S.Storage.did (ReadsUpTo 4) (reads_next walk.old) (answered result) s.old s.new }
 {
-    let at = walk.place();
+    let place = walk.next_place();
     if !walk.has_room() {
-        return Err(OpenRefusal::BrokenRecord(at));
+        return Err(OpenRefusal::BrokenRecord(place.at));
     }
-    let ring = walk.header.ring as usize;
-    let n = match read_number(s, ring, at) {
-        Ok(n) => n,
-        Err(fault) => return Err(OpenRefusal::Gone(fault)),
-    };
-    match walk.pass(n) {
-        Ok(()) => Ok(()),
-        Err(at) => Err(OpenRefusal::BrokenRecord(at)),
-    }
+    let n = read_number(s, place).map_err(OpenRefusal::Gone)?;
+    walk.pass(n)?;
+    Ok(())
 }
 
 // Passes all elements.
-fn walk_through<S: Storage>(s: &mut S, walk: Walk) -> Result<Walk, OpenRefusal<S::Gone>>
+fn walk_through<S: Storage>(s: &mut S, mut walk: Walk) -> Result<Walk, OpenRefusal<S::Gone>>
     requires in_order { (S.Storage.means s.old).in_order }
     requires sized { walk.size ≡ (S.Storage.means s.old).size }
     requires fresh { walk.passed ≡ 0 }
@@ -47,8 +41,7 @@ fn walk_through<S: Storage>(s: &mut S, walk: Walk) -> Result<Walk, OpenRefusal<S
     ensures does { OnWalk walk (S.Storage.means s.old) (S.Storage.means s.new) result }
     ensures calls { Asked S.Storage.did (ReadsUpTo 4) (reads_of walk.header.count walk.size result) (answered result) s.old s.new }
 {
-    let mut walk = walk;
-    while walk.passed < walk.header.count {
+    for _ in 0..walk.header.count {
         pass_next(s, &mut walk)?;
     }
     Ok(walk)
@@ -61,13 +54,8 @@ pub fn survey<S: Storage>(s: &mut S) -> Result<Head, OpenRefusal<S::Gone>>
     ensures does { OnSurvey (S.Storage.means s.old) (S.Storage.means s.new) result }
     ensures calls { Asked S.Storage.did (ReadsUpTo header_width) (1 + reads_of (header_of (S.Storage.means s.old).visible).count (S.Storage.means s.old).size result) (answered result) s.old s.new }
 {
-    let header = match read_header(s) {
-        Ok(header) => header,
-        Err(fault) => return Err(OpenRefusal::Gone(fault)),
-    };
-    let Some(walk) = Walk::begin(s.size(), header) else {
-        return Err(OpenRefusal::NotAQueue);
-    };
+    let header = read_header(s).map_err(OpenRefusal::Gone)?;
+    let walk = Walk::begin(s.size(), header).ok_or(OpenRefusal::NotAQueue)?;
     let walk = walk_through(s, walk)?;
     Ok(Head {
         size: walk.size,

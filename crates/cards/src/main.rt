@@ -8,49 +8,38 @@
 
 mod samples;
 
-use anyhow::anyhow;
+use anyhow::{Context, bail};
 use card::refusal::OpenRefusal;
-use devices::image::{Image, ImageParts};
+use devices::image::Image;
+use devices::memory::Memory;
 use queue::fault::QueueFault;
-use queue::opening::Unopened;
-use queue::queue::Queue;
+use queue::queue::{HandedBack, Queue};
 use samples::{Sample, samples};
 use std::{env, fs, io};
 use storage::refusal::Chain;
 use storage::storage::Storage;
 
-// The chain of a fault, from the queue down.
+// The chain of a fault, from the queue down. The program `powercut` has the same three lines; a
+// function for both would need a crate for it.
 fn print_fault<G: Chain + Drop>(rt: &impl Print, fault: QueueFault<G>) -> io::Result<()> {
-    let call = fault.call.text();
-    print!(rt; " (queue {call})")?;
-    for i in 0..usize::MAX {
-        let Some(link) = fault.below.link(i) else {
-            break;
-        };
-        let name = link.name.text();
-        let offset = link.offset;
-        print!(rt; " ({name} {offset})")?;
+    print!(rt; " (queue {})", fault.call)?;
+    for link in (0..usize::MAX).map_while(|i| fault.below.link(i)) {
+        print!(rt; " {link}")?;
     }
     Ok(())
 }
 
-// Opens a card and says what it holds, in one line.
+// Opens a card and says what it holds, in one line. Not by a Display of the refusal: the form of the
+// line is this program's.
 fn print_found<S: Storage + Drop>(rt: &impl Print, file: &str, storage: S) -> io::Result<()>
     requires { (S.Storage.means storage).in_order }
 {
     print!(rt; "{file}: ")?;
     match Queue::open(storage) {
-        Ok(queue) => {
-            let count = queue.count();
-            drop(queue.close());
-            println!(rt; "ok {count}")
-        }
-        Err(unopened) => {
-            let Unopened { refusal, storage } = unopened;
-            drop(storage);
-            let number = refusal.number();
-            print!(rt; "no {number}")?;
-            match refusal {
+        Ok(queue) => { println!(rt; "ok {}", queue.count()) }
+        Err(HandedBack { why, .. }) => {
+            print!(rt; "no {}", why.number())?;
+            match why {
                 OpenRefusal::Gone(fault) => print_fault(rt, fault)?,
                 OpenRefusal::NotAQueue => {}
                 OpenRefusal::BrokenRecord(at) => print!(rt; " {at}")?,
@@ -61,22 +50,11 @@ fn print_found<S: Storage + Drop>(rt: &impl Print, file: &str, storage: S) -> io
 }
 
 // Mounts the bytes of a card, and opens it.
-fn open_bytes(rt: &HostRuntime, file: &str, mut card: Vec<u8>) -> anyhow::Result<()> {
-    let heap = rt.alloc();
-    let size = card.len();
-    let mut visible = vec![in heap; 0u8; size]?;
-    let mut torn = vec![in heap; false; size]?;
-    let parts = ImageParts {
-        durable: &mut card,
-        visible: &mut visible,
-        torn: &mut torn,
-    };
-    match Image::mount(parts) {
+fn open_bytes(rt: &HostRuntime, file: &str, card: Vec<u8>) -> anyhow::Result<()> {
+    let mut memory = Memory::around(card)?;
+    match Image::mount(memory.image_parts()) {
         Ok(image) => print_found(rt, file, image)?,
-        Err(refused) => {
-            let number = refused.number();
-            println!(rt; "{file}: no {number}")?;
-        }
+        Err(refused) => println!(rt; "{file}: no {}", refused.number())?,
     }
     Ok(())
 }
@@ -98,30 +76,24 @@ fn write_samples(rt: &HostRuntime, dir: &str) -> anyhow::Result<()> {
     Ok(())
 }
 
-fn run(rt: &HostRuntime) -> anyhow::Result<()> {
-    let mut args = env::args(rt)?.skip(1);
+fn main(rt: HostRuntime) -> anyhow::Result<()> {
+    let mut args = env::args(&rt)?.skip(1);
     let Some(verb) = args.next() else {
-        return open_samples(rt);
+        return open_samples(&rt);
     };
     match verb.as_str() {
         "write" => {
-            let Some(dir) = args.next() else {
-                return Err(anyhow!("write: name a folder"));
-            };
-            write_samples(rt, dir.as_str())?;
-            open_samples(rt)
+            let dir = args.next().context("write: name a folder")?;
+            write_samples(&rt, dir.as_str())?;
+            open_samples(&rt)
         }
         "open" => {
             for file in args {
-                let card = fs::read(rt, file.as_str())?;
-                open_bytes(rt, file.as_str(), card)?;
+                let card = fs::read(&rt, file.as_str())?;
+                open_bytes(&rt, file.as_str(), card)?;
             }
             Ok(())
         }
-        _ => Err(anyhow!("cards [write DIR | open FILE ..]")),
+        _ => bail!("cards [write DIR | open FILE ..]"),
     }
-}
-
-fn main(rt: HostRuntime) -> anyhow::Result<()> {
-    run(&rt)
 }

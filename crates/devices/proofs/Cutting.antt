@@ -7,11 +7,14 @@ use Rattle.storage.specs.Sizes.{SizeRule}
 use Rattle.storage.specs.Standing.{Standing, unmarked}
 use Rattle.storage.specs.Meaning.{Fresh}
 use Rattle.storage.specs.Cuts.{CutDone}
-use Rattle.storage.proofs.Lists.{same, made_at}
-use Rattle.storage.proofs.Marks.{get_or_none, length_unmarked, get_or_unmarked}
+use Rattle.storage.proofs.Lists.{made_at}
+use Rattle.storage.proofs.Marks.{get_or_none}
 use Rattle.storage.proofs.Arriving.{settled}
 use Rattle.devices.specs.Devices.{Held, Kind, InOrder, means_of, choice, picked, kept, fresh}
 use Rattle.devices.specs.Rules.{Rules}
+use Rattle.devices.specs.Mounts.{Mountable}
+use Rattle.devices.specs.Sector.{no_marks}
+use Rattle.devices.specs.declared.sector.Sectors.{Sectors}
 use Rattle.devices.proofs.Doing.{same_held}
 
 -- what is mounted alone may stand
@@ -22,6 +25,10 @@ mounts K s z = record {
   only = λ t st. settled K.unit s s (replicate (length s) false) t refl (get_or_none (length s)) st;
   lives = refl;
 }
+
+-- a sector device keeps no marks, so a mount asks only for the size and as many visible bytes
+pub sectors_mountable : (m : Sectors) (d v : List ℕ) → SizeRule (length d) → length v ≡ length d → Mountable d v (no_marks m (length d))
+sectors_mountable m d v z l = record { sized = z; visible = l; torn = length-replicate (length d) false }
 
 module _ (K : Kind) (rules : Rules K) (h : Held) (i : InOrder h) (cs : List ℕ) where
   pub length_kept : length (kept K h cs) ≡ length h.durable
@@ -77,6 +84,3 @@ module _ (K : Kind) (rules : Rules K) (h : Held) (i : InOrder h) (cs : List ℕ)
         subst (λ (x : Held). InOrder x) (sym q) cut_done.fresh.in_order,
         subst (λ (x : Held). CutDone (kept K h cs) (means_of K h) (means_of K x)) (sym q) cut_done,
       )
-
-pub unmarked_from : (t t' : List Bool) → length t' ≡ length t → ((k : ℕ) → k < length t → get_or t' k false ≡ false) → t' ≡ unmarked t
-unmarked_from t t' l f = same false t' (unmarked t) (l ∙ sym (length_unmarked t)) (λ k h. f k (omega arith) ∙ sym (get_or_unmarked t k))

@@ -1,6 +1,5 @@
 pub mod Marking
 pub mod Calls
-pub mod Keeping
 pub mod Doing
 pub mod Cutting
 pub mod Sectors

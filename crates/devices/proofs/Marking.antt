@@ -1,8 +1,8 @@
 -- Two ranges of marks, at both ends of a write, are the marks of the write.
+use Rattle.std.proofs.lemmas.List.{ext_get_or}
 use Rattle.std.proofs.Common.{◌≡◌, ℕ, ◌+◌, ◌*◌, ◌/◌, ◌≤◌, min, max, Bool, true, false, List, length, get_or, sym, ◌∙◌, inl, inr, arith}
 use Rattle.std.proofs.lemmas.Bool.{cases_lt, cases_Bool, both_ways}
 use Rattle.storage.specs.Standing.{in_part, InPart, marked}
-use Rattle.storage.proofs.Lists.{same}
 use Rattle.storage.proofs.Marks.{in_part_holds, in_part_from, length_marked, get_or_marked}
 use Rattle.devices.specs.Marks.{Torn}
 
@@ -35,7 +35,7 @@ module _ (o n : ℕ) (t t₁ t₂ : List Bool) (fits : o + n ≤ length t)
 
   pub marks_made : t₂ ≡ marked 16 o n t
   marks_made =
-      same false t₂ (marked 16 o n t) (tail.long ∙ head.long ∙ sym (length_marked 16 o n t))
+      ext_get_or false t₂ (marked 16 o n t) (tail.long ∙ head.long ∙ sym (length_marked 16 o n t))
       (λ k l. elim (cases_Bool (in_part 16 o n k)) [
         | inl e ↦ in_tail k (in_part_holds 16 o n k e) ∙ sym (get_or_marked 16 o n t k fits ∙ rw e)
         | inr e ↦ apart_of k (λ i. both_ways (in_part 16 o n k) e (in_part_from 16 o n k i)) ∙ sym (get_or_marked 16 o n t k fits ∙ rw e)

@@ -17,10 +17,6 @@ upto_touched o n (inr a) = elim (cases_lt 0 n) [
   | inr q ↦ omega (arith, touched_none o n (omega arith))
 ]
 
-pub life_none : (l : Life) → (enough 0 l ≡ true) × (lessened 0 l ≡ l)
-life_none Endless = (refl, refl)
-life_none (Left l) = (le-leb 0 l (omega arith), ap Left (omega arith))
-
 pub life_more : (t : ℕ) (l : Life) → enough t l ≡ true → enough 1 (lessened t l) ≡ true → (enough (t + 1) l ≡ true) × (lessened 1 (lessened t l) ≡ lessened (t + 1) l)
 life_more t Endless e f = (refl, refl)
 life_more t (Left l) e f =

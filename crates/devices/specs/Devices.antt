@@ -10,14 +10,20 @@
 --   means_of K h    what it means
 --   serves n h      whether it serves a call of n steps: exactly where it is not gone and has them
 --   outcome K h c   how it answers the call c
+--   held t c p m    what it holds, of its copies c, its power p and its medium m, whose torn marks t gives
+--   left l          how many steps the life l has left; 0 of an endless one, which is never short
 --   after K h c     what it holds after the call
+--   Programmed K o b h h' r   a write of the bytes b at o, within the size, was answered r and led from
+--                   h to h': it arrived whole just where h serves its steps, and else as far as it got
 --   Did             it holds that, and answered so, with its name and the offset in its fault
 --   with_life n h   the same with a life of n steps
 --   kept K h cs     the content that a cut with the choice bytes cs leaves
 --   fresh s         what it holds once the content s is mounted
-use Rattle.std.specs.Prelude.{◌≡◌, ℕ, ◌+◌, ◌/◌, ◌%◌, Bool, true, false, cond, not, ◌&&◌, List, map, length, take, replicate, Ok, Err, nat_le, slice_index, slice_index_or, refl}
+use Rattle.std.specs.Prelude.{◌≡◌, ℕ, ◌+◌, ◌/◌, ◌%◌, Bool, true, false, cond, not, ◌&&◌, List, map, length, take, replicate, Ok, Err, Result, nat_le, slice_index, slice_index_or, refl}
 use Rattle.std.proofs.Common.{inl}
 use Rattle.std.specs.List.{range_with_len}
+use Rattle.devices.specs.declared.copies.Copies.{Copies}
+use Rattle.devices.specs.declared.copies.Power.{Power}
 use Rattle.storage.specs.declared.life.Life.{Life}
 use Rattle.storage.specs.declared.life.Life.TheVariants.{Endless, Left}
 use Rattle.storage.specs.declared.refusal.Link.{Link}
@@ -84,6 +90,9 @@ outcome K h (Reading o n) = ends (nat_le (o + n) (length h.durable)) (not h.gone
 outcome K h (Writing o b) = ends (nat_le (o + length b) (length h.durable)) (serves (K.steps o (length b)) h)
 outcome K h Syncing = ends true (serves 1 h)
 
+abbrev pub held : {M : Type 0} → (M → ℕ → List Bool) → Copies → Power → M → Held
+held t c p m = record { durable = c.durable.now; visible = c.visible.now; torn = t m (length c.durable.now); life = p.life; gone = p.gone }
+
 abbrev pub left : Life → ℕ
 left Endless = 0
 left (Left n) = n
@@ -108,6 +117,10 @@ written K h o b served = record {
 }
 written K h o b past = h
 written K h o b lost = cond h.gone h (broken K h o b)
+
+abbrev pub Programmed : {E : Type 0} → Kind → ℕ → List ℕ → Held → Held → Result (Unit {0}) E → Type 0
+Programmed K o b h h' (Ok _) = (serves (K.steps o (length b)) h ≡ true) × (h' ≡ written K h o b served)
+Programmed K o b h h' (Err _) = (serves (K.steps o (length b)) h ≡ false) × (h' ≡ written K h o b lost)
 
 abbrev pub synced : Held → Outcome → Held
 synced h served = record {

@@ -3,16 +3,12 @@
 --   sector           the rules of its kind
 --   sector_name      the name in its faults
 --   upto o l         how many bytes from o on lie within the first l sectors that it touches
---   sector_holds d   what the device d holds: no byte of it is torn
---   SectorMountable, OnSectorMount   as for an image
-use Rattle.std.specs.Prelude.{◌≡◌, ℕ, ◌+◌, ◌-◌, ◌*◌, ◌/◌, ◌%◌, Bool, false, cond, List, length, replicate, Ok, Err, codes, Result, ◌==◌}
-use Rattle.storage.specs.declared.refusal.BadMount.{BadMount}
-use Rattle.storage.specs.Sizes.{SizeRule, sector_width}
+--   no_marks m n     the torn marks of a device of n bytes: none is set, and none is kept
+use Rattle.std.specs.Prelude.{ℕ, ◌+◌, ◌-◌, ◌*◌, ◌/◌, ◌%◌, Bool, false, cond, List, replicate, codes, ◌==◌}
+use Rattle.storage.specs.Sizes.{sector_width}
 use Rattle.storage.specs.Sectors.{touched}
-use Rattle.storage.specs.Meaning.{Fresh}
-use Rattle.devices.specs.declared.sector.SectorDevice.{SectorDevice}
-use Rattle.devices.specs.declared.sector.SectorParts.{SectorParts}
-use Rattle.devices.specs.Devices.{Held, Kind, means_of, fresh}
+use Rattle.devices.specs.declared.sector.Sectors.{Sectors}
+use Rattle.devices.specs.Devices.{Kind}
 
 abbrev pub upto : ℕ → ℕ → ℕ
 upto o l = sector_width * (o / sector_width + l) - o
@@ -27,19 +23,5 @@ sector = record { unit = sector_width; steps = touched; marks = λ o n t. t; fro
 abbrev pub sector_name : List ℕ
 sector_name = codes "sector"
 
-abbrev pub sector_holds : SectorDevice → Held
-sector_holds d = record {
-  durable = d.copies.durable.now;
-  visible = d.copies.visible.now;
-  torn = replicate (length d.copies.durable.now) false;
-  life = d.power.life;
-  gone = d.power.gone;
-}
-
-pub record SectorMountable (d v : List ℕ) : Type 0 where
-  pub sized : SizeRule (length d)
-  pub visible : length v ≡ length d
-
-abbrev pub OnSectorMount : List ℕ → List ℕ → Result SectorDevice (BadMount SectorParts) → Type 0
-OnSectorMount d v (Ok s) = SectorMountable d v × (sector_holds s ≡ fresh d) × Fresh d (means_of sector (sector_holds s))
-OnSectorMount d v (Err e) = (SectorMountable d v → ⊥) × (e.given.durable.now ≡ d) × (e.given.visible.now ≡ v)
+abbrev pub no_marks : Sectors → ℕ → List Bool
+no_marks m n = replicate n false

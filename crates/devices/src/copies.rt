@@ -1,10 +1,13 @@
 // What both kinds of device are made of: bytes that are kept twice, and a supply of power.
-ghost use Rattle.std.specs.Prelude.{◌≡◌, ◌+◌, ◌≤◌, true, false, not, ◌&&◌, length};
+ghost use Rattle.std.specs.Prelude.{◌≡◌, ◌+◌, ◌≤◌, true, false, not, ◌&&◌, length, is_ok};
 ghost use Rattle.storage.specs.Cells.{laid, part};
 ghost use Rattle.storage.specs.Lives.{lessened, enough};
 
+use storage::cells::{fetch, lay};
 use storage::life::Life;
 
+// Two slices, not one of pairs: a card's bytes are lent as they lie in a file, and are read in
+// one copy.
 #[derive(Drop)]
 pub struct Copies<'a> {
     pub durable: &'a mut [u8],
@@ -22,7 +25,7 @@ impl Copies<'_> {
         requires { from + length buf.old ≤ length self.now.visible.now }
         ensures { buf.new ≡ part from (length buf.old) self.now.visible.now }
     {
-        buf.copy_from_slice(&self.visible[from..from + buf.len()]);
+        fetch(self.visible, from, buf);
     }
 
     pub fn put(&mut self, from: usize, bytes: &[u8])
@@ -39,45 +42,38 @@ impl Copies<'_> {
         ensures durable { self.new.durable.now ≡ self.old.visible.now }
         ensures visible { self.new.visible ≡ self.old.visible }
     {
-        for i in 0..self.durable.len() {
-            let byte = self.visible[i];
-            self.durable[i] = byte;
-        }
+        // Not passed as a field: beside the loan of the other field the check has no rule for it.
+        let visible = &mut *self.visible;
+        self.durable.copy_from_slice(visible);
     }
 }
 
-fn lay(all: &mut [u8], from: usize, bytes: &[u8])
-    requires { from + length bytes.now ≤ length all.old }
-    ensures { all.new ≡ laid from bytes.now all.old }
-{
-    all[from..from + bytes.len()].copy_from_slice(bytes);
-}
-
+// Two facts, not one: a life that is set does not revive a device that is gone.
 #[derive(Clone, Copy)]
 pub struct Power {
     pub life: Life,
     pub gone: bool,
 }
 
+// No step of life is left for what was asked.
+#[derive(Clone, Copy, PartialEq, Eq, Debug)]
+pub struct Spent;
+
 impl Power {
     // Takes a step of life, or is gone.
-    pub fn serve(&mut self) -> bool
-        ensures served { result ≡ (not self.old.gone && enough 1 self.old.life) }
-        ensures life { (result ≡ true → self.new.life ≡ lessened 1 self.old.life) × (result ≡ false → self.new.life ≡ self.old.life) }
-        ensures gone { self.new.gone ≡ not result }
+    pub fn serve(&mut self) -> Result<(), Spent>
+        ensures served { is_ok result ≡ (not self.old.gone && enough 1 self.old.life) }
+        ensures life { (is_ok result ≡ true → self.new.life ≡ lessened 1 self.old.life) × (is_ok result ≡ false → self.new.life ≡ self.old.life) }
+        ensures gone { self.new.gone ≡ not (is_ok result) }
     {
         if self.gone {
-            return false;
+            return Err(Spent);
         }
-        match self.life.spend() {
-            Some(rest) => {
-                self.life = rest;
-                true
-            }
-            None => {
-                self.gone = true;
-                false
-            }
-        }
+        let Some(rest) = self.life.spend() else {
+            self.gone = true;
+            return Err(Spent);
+        };
+        self.life = rest;
+        Ok(())
     }
 }

@@ -3,6 +3,9 @@
 #![tactic(auto)]
 
 mod copies;
+pub mod device;
 pub mod image;
 mod marks;
+mod medium;
+pub mod memory;
 pub mod sector;

@@ -1,9 +1,9 @@
 -- The bytes of a part: reading them, laying bytes over them, and what arrives of a write.
 use Rattle.std.proofs.Common.{◌≡◌, ℕ, ◌+◌, ◌/◌, ◌%◌, ◌<◌, ◌≤◌, ◌⊎◌, List, length, get_or, sym, ap, ◌∙◌, inl, inr, arith, length-drop, length-take}
-use Rattle.std.proofs.lemmas.List.{get_or_past}
+use Rattle.std.proofs.lemmas.List.{get_or_past, ext_get_or}
 use Rattle.std.proofs.lemmas.Bool.{cases_lt}
 use Rattle.storage.specs.Cells.{laid, part, length_part, Partly}
-use Rattle.storage.proofs.Lists.{part_at, laid_apart, laid_within, length_laid, same}
+use Rattle.storage.proofs.Lists.{part_at, laid_apart, laid_within, length_laid}
 use Rattle.partition.specs.Parts.{Agree}
 
 past : (b n : ℕ) (s : List ℕ) (k : ℕ) → b + n ≤ length s → n ≤ k → get_or (part b n s) k 0 ≡ 0
@@ -12,7 +12,7 @@ past b n s k fits l = get_or_past (part b n s) k 0 (omega (arith, length_part b 
 -- a part of a part is a part of the whole
 pub part_part : (b n o c : ℕ) (s : List ℕ) → b + n ≤ length s → o + c ≤ n → part (b + o) c s ≡ part o c (part b n s)
 part_part b n o c s fits h =
-    same 0 (part (b + o) c s) (part o c (part b n s)) (simp (length-take, length-drop) (omega arith))
+    ext_get_or 0 (part (b + o) c s) (part o c (part b n s)) (simp (length-take, length-drop) (omega arith))
     (λ k l. let lt : k < c = omega (arith, simp length-take at l) in
     part_at (b + o) c s k lt ∙ ap (λ (i : ℕ). get_or s i 0) (omega arith) ∙ sym (part_at o c (part b n s) k lt ∙ part_at b n s (o + k) (omega arith)))
 
@@ -23,7 +23,7 @@ part_laid b n o bytes s fits h =
     let lp = length_part b n s fits in
     let ll = length_part b n (laid (b + o) bytes s) (omega arith) in
     let here : o + length bytes ≤ length (part b n s) = omega arith in
-    same 0 (part b n (laid (b + o) bytes s)) (laid o bytes (part b n s)) (ll ∙ sym (length_laid o bytes (part b n s) here ∙ lp))
+    ext_get_or 0 (part b n (laid (b + o) bytes s)) (laid o bytes (part b n s)) (ll ∙ sym (length_laid o bytes (part b n s) here ∙ lp))
     (λ k l. let kn : k < n = omega arith in part_at b n (laid (b + o) bytes s) k kn ∙ elim (cases_lt k o) [
       | inl x ↦ laid_apart (b + o) bytes s (b + k) all (inl (omega arith)) ∙ sym (laid_apart o bytes (part b n s) k here (inl x) ∙ part_at b n s k kn)
       | inr x ↦ elim (cases_lt k (o + length bytes)) [

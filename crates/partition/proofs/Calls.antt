@@ -1,5 +1,5 @@
 -- What a call on a part does, from what the call below did.
-use Rattle.std.proofs.Common.{◌≡◌, ℕ, ◌+◌, ◌≤◌, true, List, length, Ok, Err, sym, refl, ap, ◌∙◌, subst, arith}
+use Rattle.std.proofs.Common.{◌≡◌, ℕ, ◌+◌, ◌≤◌, true, List, length, Ok, Err, Result, sym, refl, ap, ◌∙◌, subst, arith}
 use Rattle.std.proofs.lemmas.Bool.{both_ways}
 use Rattle.storage.specs.declared.refusal.LayerFault.{LayerFault}
 use Rattle.storage.specs.declared.refusal.Link.{Link}
@@ -9,7 +9,8 @@ use Rattle.storage.specs.Cells.{laid, part, Partly}
 use Rattle.storage.specs.Refusals.{Answer, Step, Told, told}
 use Rattle.storage.specs.Meaning.{Meaning, Lawful, Within, Same}
 use Rattle.storage.specs.Calls.{Call, offset_of, Arrives, Served, Ended, OnRead, OnWrite, OnSync}
-use Rattle.storage.specs.Layers.{Lifted}
+use Rattle.storage.specs.Inside.{OnReadInside, OnWriteInside, OnSyncInside}
+use Rattle.storage.specs.Layers.{Lifted, Lifts, lowered}
 use Rattle.storage.proofs.Layers.{own, carried, tells_gone}
 use Rattle.partition.specs.declared.Partition.{Partition}
 use Rattle.partition.specs.Parts.{PartInOrder, part_means, moved, end_of, Agree, Frame}
@@ -74,13 +75,13 @@ pub record Passed (b n : ℕ) (m m' : Meaning) (Does : Type 0) : Type 0 where
   pub does : Does
   pub frame : Frame b n m m'
 
-module _ {O G : Type 0} (tells : Refusal O G → Told) (name : List ℕ) (links : G → List Step) (b n : ℕ) (m m' : Meaning) (l : Lawful m) (i : PartInOrder b n m) (still-in-order : m'.in_order) where
+module _ {G : Type 0} (links : G → List Step) (b n : ℕ) (m m' : Meaning) (l : Lawful m) (i : PartInOrder b n m) (still-in-order : m'.in_order) where
   abbrev tells_up : Refusal Link (LayerFault G) → Told
   tells_up = told own (carried links)
 
-  pub on_read : (o : ℕ) (old new : List ℕ) (x : Answer O G) (r : Answer Link (LayerFault G)) → o + length old ≤ n → length new ≡ length old →
-      OnRead tells name (b + o) old new m m' x → Lifted partition_name o x r →
-      Passed b n m m' (OnRead tells_up partition_name o old new (part_means b n m) (part_means b n m') r)
+  pub on_read : (o : ℕ) (old new : List ℕ) (r : Result (Unit {0}) G) (x : Answer Link (LayerFault G)) → o + length old ≤ n → length new ≡ length old →
+      OnReadInside (b + o) old new m m' r → Lifts partition_name o r x →
+      Passed b n m m' (OnRead tells_up partition_name o old new (part_means b n m) (part_means b n m') x)
   on_read o old new (Ok _) (Ok _) fits long d u = record {
     in_order = still b n m m' i still-in-order d.served.size;
     does = record {
@@ -93,21 +94,20 @@ module _ {O G : Type 0} (tells : Refusal O G → Told) (name : List ℕ) (links 
     frame = quiet b n m m' (λ _. d.visible) d.stands;
   }
   on_read o old new (Ok _) (Err e) fits long d u = absurd u
-  on_read o old new (Err (Outside f)) r fits long d u = absurd u
-  on_read o old new (Err (Gone f)) (Ok _) fits long d u = absurd u
-  on_read o old new (Err (Gone f)) (Err (Outside g)) fits long d u = absurd u
-  on_read o old new (Err (Gone f)) (Err (Gone g)) fits long d u = record {
-    in_order = still b n m m' i still-in-order d.1.ended.size;
+  on_read o old new (Err f) (Ok _) fits long d u = absurd u
+  on_read o old new (Err f) (Err (Outside g)) fits long d u = absurd u
+  on_read o old new (Err f) (Err (Gone g)) fits long d u = record {
+    in_order = still b n m m' i still-in-order d.ended.size;
     does = (
       tells_gone partition_name links o f g u,
-      record { fits = fits; ended = ended b n m m' d.1.ended; stands = within b n m m' d.1.stands; zeroed = d.1.zeroed },
+      record { fits = fits; ended = ended b n m m' d.ended; stands = within b n m m' d.stands; zeroed = d.zeroed },
     );
-    frame = quiet b n m m' (dead_shows m m' m.visible d.1.ended) d.1.stands;
+    frame = quiet b n m m' (dead_shows m m' m.visible d.ended) d.stands;
   }
 
-  pub on_write : (o : ℕ) (bytes : List ℕ) (x : Answer O G) (r : Answer Link (LayerFault G)) → o + length bytes ≤ n →
-      OnWrite tells name (b + o) bytes m m' x → Lifted partition_name o x r →
-      Passed b n m m' (OnWrite tells_up partition_name o bytes (part_means b n m) (part_means b n m') r)
+  pub on_write : (o : ℕ) (bytes : List ℕ) (r : Result (Unit {0}) G) (x : Answer Link (LayerFault G)) → o + length bytes ≤ n →
+      OnWriteInside (b + o) bytes m m' r → Lifts partition_name o r x →
+      Passed b n m m' (OnWrite tells_up partition_name o bytes (part_means b n m) (part_means b n m') x)
   on_write o bytes (Ok _) (Ok _) fits d u = record {
     in_order = still b n m m' i still-in-order d.served.size;
     does = record {
@@ -119,21 +119,20 @@ module _ {O G : Type 0} (tells : Refusal O G → Told) (name : List ℕ) (links 
     frame = apart b n m m' l i o bytes fits (λ _. d.visible) d.stands;
   }
   on_write o bytes (Ok _) (Err e) fits d u = absurd u
-  on_write o bytes (Err (Outside f)) r fits d u = absurd u
-  on_write o bytes (Err (Gone f)) (Ok _) fits d u = absurd u
-  on_write o bytes (Err (Gone f)) (Err (Outside g)) fits d u = absurd u
-  on_write o bytes (Err (Gone f)) (Err (Gone g)) fits d u = record {
-    in_order = still b n m m' i still-in-order d.1.ended.size;
+  on_write o bytes (Err f) (Ok _) fits d u = absurd u
+  on_write o bytes (Err f) (Err (Outside g)) fits d u = absurd u
+  on_write o bytes (Err f) (Err (Gone g)) fits d u = record {
+    in_order = still b n m m' i still-in-order d.ended.size;
     does = (
       tells_gone partition_name links o f g u,
-      record { fits = fits; ended = ended b n m m' d.1.ended; stands = arrives b n m m' l i o bytes fits d.1.stands },
+      record { fits = fits; ended = ended b n m m' d.ended; stands = arrives b n m m' l i o bytes fits d.stands },
     );
-    frame = apart b n m m' l i o bytes fits (dead_shows m m' (laid (b + o) bytes m.visible) d.1.ended) d.1.stands;
+    frame = apart b n m m' l i o bytes fits (dead_shows m m' (laid (b + o) bytes m.visible) d.ended) d.stands;
   }
 
   -- what stands after a sync that was served are the visible bytes, which might have stood before
-  pub on_sync : (x : Answer O G) (r : Answer Link (LayerFault G)) → OnSync tells name m m' x → Lifted partition_name 0 x r →
-      Passed b n m m' (OnSync tells_up partition_name (part_means b n m) (part_means b n m') r)
+  pub on_sync : (r : Result (Unit {0}) G) (x : Answer Link (LayerFault G)) → OnSyncInside m m' r → Lifts partition_name 0 r x →
+      Passed b n m m' (OnSync tells_up partition_name (part_means b n m) (part_means b n m') x)
   on_sync (Ok _) (Ok _) d u = record {
     in_order = still b n m m' i still-in-order d.served.size;
     does = record {
@@ -144,17 +143,24 @@ module _ {O G : Type 0} (tells : Refusal O G → Told) (name : List ℕ) (links 
     frame = quiet b n m m' (λ _. d.visible) (λ s h. subst m.stands (sym (d.only s h)) (l.shown d.served.lived));
   }
   on_sync (Ok _) (Err e) d u = absurd u
-  on_sync (Err (Outside f)) r d u = absurd u
-  on_sync (Err (Gone f)) (Ok _) d u = absurd u
-  on_sync (Err (Gone f)) (Err (Outside g)) d u = absurd u
-  on_sync (Err (Gone f)) (Err (Gone g)) d u = record {
-    in_order = still b n m m' i still-in-order d.1.ended.size;
-    does = (tells_gone partition_name links 0 f g u, record { ended = ended b n m m' d.1.ended; stands = within b n m m' d.1.stands });
-    frame = quiet b n m m' (dead_shows m m' m.visible d.1.ended) d.1.stands;
+  on_sync (Err f) (Ok _) d u = absurd u
+  on_sync (Err f) (Err (Outside g)) d u = absurd u
+  on_sync (Err f) (Err (Gone g)) d u = record {
+    in_order = still b n m m' i still-in-order d.ended.size;
+    does = (tells_gone partition_name links 0 f g u, record { ended = ended b n m m' d.ended; stands = within b n m m' d.stands });
+    frame = quiet b n m m' (dead_shows m m' m.visible d.ended) d.stands;
   }
 
+-- what the refusal of a range would have held makes no difference
+lifted_any : (O P : Type 0) {G : Type 0} (name : List ℕ) (o : ℕ) (r : Result (Unit {0}) G) (x : Answer Link (LayerFault G)) → Lifted {O = P} name o (lowered r) x → Lifted {O = O} name o (lowered r) x
+lifted_any O P name o (Ok _) (Ok _) u = u
+lifted_any O P name o (Ok _) (Err e) u = u
+lifted_any O P name o (Err f) (Ok _) u = u
+lifted_any O P name o (Err f) (Err (Outside g)) u = u
+lifted_any O P name o (Err f) (Err (Gone g)) u = u
+
 -- a call within the part, which was made below
-pub did_below : {S O G : Type 0} (means : S → Meaning) (did : S → Call → Answer O G → S → Type 0) (p : Partition S) (s' : S) (call : Call) (x : Answer O G) (r : Answer Link (LayerFault G)) →
-    end_of call ≤ p.size → did p.below (moved p.base call) x s' → Lifted partition_name (offset_of call) x r → Frame p.base p.size (means p.below) (means s') →
-    PartDid means did p call r (record { below = s'; base = p.base; size = p.size })
-did_below means did p s' call x r fits d u f = record { base = refl; size = refl; outside = λ h. absurd (omega arith); inside = λ _. record { answer = x; made = d; lifted = u }; frame = f }
+pub did_below : {S O G : Type 0} (means : S → Meaning) (did : S → Call → Answer O G → S → Type 0) (p : Partition S) (s' : S) (call : Call) (r : Result (Unit {0}) G) (x : Answer Link (LayerFault G)) →
+    end_of call ≤ p.size → did p.below (moved p.base call) (lowered r) s' → Lifts partition_name (offset_of call) r x → Frame p.base p.size (means p.below) (means s') →
+    PartDid means did p call x (record { below = s'; base = p.base; size = p.size })
+did_below {O = O} means did p s' call r x fits d u f = record { base = refl; size = refl; outside = λ h. absurd (omega arith); inside = λ _. record { answer = lowered r; made = d; lifted = lifted_any O (Unit {0}) partition_name (offset_of call) r x u }; frame = f }

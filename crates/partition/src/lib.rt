@@ -9,13 +9,15 @@ ghost use Rattle.std.specs.Prelude.{◌≡◌};
 ghost use Rattle.partition.specs.Parts.{part_lawful};
 ghost use Rattle.partition.specs.Partitions.{OnOver, PartDid, Sets, means_of, partition_name};
 ghost use Rattle.storage.specs.Cells.{part};
-ghost use Rattle.storage.specs.Layers.{Inside, Lifted};
-ghost use Rattle.storage.specs.Refusals.{step};
 
 use storage::cuttable::Cuttable;
+use storage::inside::{read_inside, sync_inside, write_inside};
+use storage::layer::{check_range, lift};
 use storage::refusal::{BadMount, LayerFault, Link, Name, Refusal};
 use storage::sizes::{SECTOR, keeps_size_rule, passes};
 use storage::storage::Storage;
+
+const NAME: Name = Name::Partition;
 
 #[derive(Drop)]
 pub struct Partition<S> {
@@ -35,34 +37,6 @@ impl<S: Storage> Partition<S> {
             return Err(BadMount { given: below });
         }
         Ok(Partition { below, base, size })
-    }
-}
-
-fn link(offset: usize) -> Link
-    ensures { step result ≡ record { name = partition_name; offset = offset } }
-{
-    Link {
-        name: Name::Partition,
-        offset,
-    }
-}
-
-// The answer from below, its fault carried whole. No call is outside there: the part ends
-// within the storage below.
-fn lift<O: Drop, G>(
-    offset: usize,
-    answer: Result<(), Refusal<O, G>>,
-) -> Result<(), Refusal<Link, LayerFault<G>>>
-    requires { Inside answer }
-    ensures { Lifted partition_name offset answer result }
-{
-    match answer {
-        Ok(()) => Ok(()),
-        Err(Refusal::Outside(_)) => unreachable(),
-        Err(Refusal::Gone(below)) => Err(Refusal::Gone(LayerFault {
-            link: link(offset),
-            below,
-        })),
     }
 }
 
@@ -88,10 +62,9 @@ impl<S: Storage> Storage for Partition<S> {
         offset: usize,
         buf: &mut [u8],
     ) -> Result<(), Refusal<Link, LayerFault<S::Gone>>> {
-        if passes(self.size, offset, buf.len()) {
-            return Err(Refusal::Outside(link(offset)));
-        }
-        lift(offset, self.below.read(self.base + offset, buf))
+        check_range(NAME, self.size, offset, buf.len())?;
+        let answer = read_inside(&mut self.below, self.base + offset, buf);
+        lift(NAME, offset, answer)
     }
 
     fn write(
@@ -99,14 +72,14 @@ impl<S: Storage> Storage for Partition<S> {
         offset: usize,
         bytes: &[u8],
     ) -> Result<(), Refusal<Link, LayerFault<S::Gone>>> {
-        if passes(self.size, offset, bytes.len()) {
-            return Err(Refusal::Outside(link(offset)));
-        }
-        lift(offset, self.below.write(self.base + offset, bytes))
+        check_range(NAME, self.size, offset, bytes.len())?;
+        let answer = write_inside(&mut self.below, self.base + offset, bytes);
+        lift(NAME, offset, answer)
     }
 
     fn sync(&mut self) -> Result<(), Refusal<Link, LayerFault<S::Gone>>> {
-        lift(0, self.below.sync())
+        let answer = sync_inside(&mut self.below);
+        lift(NAME, 0, answer)
     }
 }
 

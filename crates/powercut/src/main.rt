@@ -5,8 +5,9 @@
 
 use anyhow::anyhow;
 use cache::cache::Cache;
-use devices::image::{Image, ImageParts};
-use devices::sector::{SectorDevice, SectorParts};
+use devices::image::Image;
+use devices::memory::Memory;
+use devices::sector::SectorDevice;
 use partition::Partition;
 use std::io;
 use storage::client::store;
@@ -17,18 +18,15 @@ use storage::storage::Storage;
 
 const SIZE: usize = 4_096;
 
+// The program `cards` has the same three lines; a function for both would need a crate for it.
 fn print_chain<F: Chain>(rt: &impl Print, fault: &F) -> io::Result<()> {
-    for i in 0..usize::MAX {
-        let Some(link) = fault.link(i) else {
-            break;
-        };
-        let name = link.name.text();
-        let offset = link.offset;
-        print!(rt; " ({name} {offset})")?;
+    for link in (0..usize::MAX).map_while(|i| fault.link(i)) {
+        print!(rt; " {link}")?;
     }
     Ok(())
 }
 
+// Not by a Display of the refusal: the form of the line is this program's.
 fn print_answer<O: Chain + Drop, G: Chain + Drop>(
     rt: &impl Print,
     call: &str,
@@ -39,10 +37,7 @@ fn print_answer<O: Chain + Drop, G: Chain + Drop>(
     };
     let number = refusal.number();
     print!(rt; "{call}: no {number}")?;
-    match refusal {
-        Refusal::Outside(fault) => print_chain(rt, &fault)?,
-        Refusal::Gone(fault) => print_chain(rt, &fault)?,
-    }
+    print_chain(rt, &refusal)?;
     println!(rt; "")
 }
 
@@ -52,8 +47,9 @@ fn print_start<S: Storage>(rt: &impl Print, card: &mut S, offset: usize) -> io::
     ensures { (S.Storage.means card.new).in_order }
 {
     let mut start = [0u8; CELL];
-    if let Err(refusal) = card.read(offset, &mut start) {
-        return print_answer(rt, "read", Err(refusal));
+    let answer = card.read(offset, &mut start);
+    if answer.is_err() {
+        return print_answer(rt, "read", answer);
     }
     print!(rt; "  {offset:>4} ")?;
     for byte in start {
@@ -67,6 +63,7 @@ fn print_four<S: Storage>(rt: &impl Print, card: &mut S, width: usize) -> io::Re
     requires { (S.Storage.means card.old).in_order }
     ensures { (S.Storage.means card.new).in_order }
 {
+    // By number, which is what the width is multiplied by.
     for i in 0..4usize {
         print_start(rt, card, i.saturating_mul(width))?;
     }
@@ -110,16 +107,8 @@ fn story<C: Cuttable>(
 }
 
 fn on_image(rt: &HostRuntime) -> anyhow::Result<()> {
-    let heap = rt.alloc();
-    let mut durable = vec![in heap; 0u8; SIZE]?;
-    let mut visible = vec![in heap; 0u8; SIZE]?;
-    let mut torn = vec![in heap; false; SIZE]?;
-    let parts = ImageParts {
-        durable: &mut durable,
-        visible: &mut visible,
-        torn: &mut torn,
-    };
-    let Ok(mut image) = Image::mount(parts) else {
+    let mut memory = Memory::around(vec![in rt.alloc(); 0u8; SIZE]?)?;
+    let Ok(mut image) = Image::mount(memory.image_parts()) else {
         return Err(anyhow!("the image does not mount"));
     };
     println!(rt; "an image, cut by cells of 16 bytes")?;
@@ -129,15 +118,10 @@ fn on_image(rt: &HostRuntime) -> anyhow::Result<()> {
 
 fn on_sector_device(rt: &HostRuntime) -> anyhow::Result<()> {
     let heap = rt.alloc();
-    let mut durable = vec![in heap; 0u8; SIZE]?;
-    let mut visible = vec![in heap; 0u8; SIZE]?;
+    let mut memory = Memory::around(vec![in heap; 0u8; SIZE]?)?;
     let old = vec![in heap; b'a'; 2_048]?;
     let new = vec![in heap; b'b'; 1_536]?;
-    let parts = SectorParts {
-        durable: &mut durable,
-        visible: &mut visible,
-    };
-    let Ok(mut device) = SectorDevice::mount(parts) else {
+    let Ok(mut device) = SectorDevice::mount(memory.sector_parts()) else {
         return Err(anyhow!("the sector device does not mount"));
     };
     println!(rt; "a sector device, cut by sectors of 512 bytes")?;
@@ -146,16 +130,8 @@ fn on_sector_device(rt: &HostRuntime) -> anyhow::Result<()> {
 }
 
 fn on_stack(rt: &HostRuntime) -> anyhow::Result<()> {
-    let heap = rt.alloc();
-    let mut durable = vec![in heap; 0u8; 4_608]?;
-    let mut visible = vec![in heap; 0u8; 4_608]?;
-    let mut torn = vec![in heap; false; 4_608]?;
-    let parts = ImageParts {
-        durable: &mut durable,
-        visible: &mut visible,
-        torn: &mut torn,
-    };
-    let Ok(image) = Image::mount(parts) else {
+    let mut memory = Memory::around(vec![in rt.alloc(); 0u8; 4_608]?)?;
+    let Ok(image) = Image::mount(memory.image_parts()) else {
         return Err(anyhow!("the image does not mount"));
     };
     let Ok(part) = Partition::over(image, 512, SIZE) else {

@@ -1,3 +1,4 @@
 pub mod Faults
+pub mod Handing
 pub mod Opening
 pub mod Formatting

@@ -1,6 +1,5 @@
 -- What opening gives.
 --   Named e e'     the refusal e' is e, with the name of the call in its fault, which is kept whole
---   held r         the storage that the result r of an opening holds, in the queue or handed back
 --   told r         what the storage answered: the fault of GONE, or else all calls were served
 --   OnOpen m m' r  what an opening with the result r did and found, m before it and m' after it: exactly
 --                  what the reading of the visible bytes says
@@ -13,7 +12,7 @@ use Rattle.card.specs.declared.refusal.OpenRefusal.TheVariants.{Gone, NotAQueue,
 use Rattle.card.specs.Surveys.{Shows}
 use Rattle.queue.specs.declared.fault.QueueCall.TheVariants.{Open}
 use Rattle.queue.specs.declared.fault.QueueFault.{QueueFault}
-use Rattle.queue.specs.declared.opening.Unopened.{Unopened}
+use Rattle.queue.specs.declared.queue.HandedBack.{HandedBack}
 use Rattle.queue.specs.declared.queue.Queue.{Queue}
 
 abbrev pub Named : {G : Type 0} → OpenRefusal G → OpenRefusal (QueueFault G) → Type 0
@@ -32,14 +31,10 @@ OnRefused m m' NotAQueue = Still m m' × (reading.reading_of m.visible ≡ readi
 OnRefused m m' (BrokenRecord p) = Still m m' × (reading.reading_of m.visible ≡ reading.BrokenRecord p)
 
 module _ {S G : Type 0} where
-  abbrev pub held : Result (Queue S) (Unopened G S) → S
-  held (Ok q) = q.storage
-  held (Err u) = u.storage
-
-  abbrev pub told : Result (Queue S) (Unopened G S) → Result (Unit {0}) G
+  abbrev pub told : Result (Queue S) (HandedBack (OpenRefusal (QueueFault G)) S) → Result (Unit {0}) G
   told (Ok q) = Ok tt
-  told (Err u) = fault_of u.refusal
+  told (Err u) = fault_of u.why
 
-  abbrev pub OnOpen : Meaning → Meaning → Result (Queue S) (Unopened G S) → Type 0
+  abbrev pub OnOpen : Meaning → Meaning → Result (Queue S) (HandedBack (OpenRefusal (QueueFault G)) S) → Type 0
   OnOpen m m' (Ok q) = Still m m' × Shows q.head m.visible
-  OnOpen m m' (Err u) = OnRefused m m' u.refusal
+  OnOpen m m' (Err u) = OnRefused m m' u.why

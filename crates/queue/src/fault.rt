@@ -1,6 +1,8 @@
 // What a queue adds to the fault of its storage: its name and the call.
-ghost use Rattle.std.specs.Prelude.{◌≡◌};
+ghost use Rattle.std.specs.Prelude.{◌≡◌, Some};
 ghost use Rattle.queue.specs.Faults.{spelled};
+
+use std::fmt;
 
 // The calls of a queue that reach the storage.
 #[derive(Clone, Copy, PartialEq, Eq, Debug)]
@@ -10,6 +12,7 @@ pub enum QueueCall {
 }
 
 impl QueueCall {
+    // The one place that spells the names; Display rests on it.
     pub fn text(self) -> &'static str
         ensures { result.now ≡ spelled self }
     {
@@ -20,7 +23,16 @@ impl QueueCall {
     }
 }
 
-// The call that a storage's fault ended, and that fault, whole.
+impl fmt::Display for QueueCall {
+    ghost output = { λ c. Some (spelled c) };
+
+    fn fmt<W: fmt::Write>(&self, f: &mut fmt::Formatter<W>) -> fmt::Result {
+        f.write_str(self.text())
+    }
+}
+
+// The call that a storage's fault ended, and that fault, whole. A layer's fault has a link with
+// an offset in the place of the call.
 #[derive(Debug, Drop)]
 pub struct QueueFault<G> {
     pub call: QueueCall,

@@ -1,19 +1,31 @@
 // A queue: its head, and the storage that it is on.
 ghost use Rattle.std.specs.Prelude.{◌≡◌};
+ghost use Rattle.queue.specs.Handing.{Handed};
 
 use ring::head::Head;
 
+#[derive(Drop)]
 pub struct Queue<S> {
     storage: S,
     head: Head,
 }
 
+// Why a card was declined, and its storage, which is handed back.
+#[derive(Debug, Drop)]
+pub struct HandedBack<E, S> {
+    pub why: E,
+    pub storage: S,
+}
+
 impl<S> Queue<S> {
-    pub(crate) fn over(storage: S, head: Head) -> Queue<S>
-        ensures storage { result.storage ≡ storage }
-        ensures head { result.head ≡ head }
+    // The queue with the head that was found, or the storage handed back.
+    pub(crate) fn over<E>(storage: S, found: Result<Head, E>) -> Result<Queue<S>, HandedBack<E, S>>
+        ensures { Handed storage found result }
     {
-        Queue { storage, head }
+        match found {
+            Ok(head) => Ok(Queue { storage, head }),
+            Err(why) => Err(HandedBack { why, storage }),
+        }
     }
 
     // How many records there are, as of the last completed call.
@@ -27,7 +39,6 @@ impl<S> Queue<S> {
     pub fn close(self) -> S
         ensures { result ≡ self.storage }
     {
-        let Queue { storage, head: _ } = self;
-        storage
+        self.storage
     }
 }

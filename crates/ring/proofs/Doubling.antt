@@ -1,30 +1,11 @@
 -- Ring lengths by doubling.
-use Rattle.std.proofs.Common.{◌≡◌, ℕ, zero, suc, ◌+◌, ◌-◌, ◌*◌, ◌^◌, ◌<◌, ◌≤◌, true, eqb, sym, refl, ap, ◌∙◌, inl, inr, not-suc-le-zero, mul_assoc, mul_comm, pow-suc, mul-one, add-one, arith, pow_mono}
+use Rattle.std.proofs.Common.{◌≡◌, ℕ, zero, suc, ◌+◌, ◌*◌, ◌^◌, ◌≤◌, true, eqb, sym, ap, ◌∙◌, inl, inr, mul_assoc, mul_comm, pow-suc, mul-one, add-one, arith}
 use native.Mathlib.Nat.{pow-succ'}
-use Rattle.std.proofs.lemmas.Bool.{eq-eqb, ne_eqb, eqb-true, or_left, or_right, or_cases}
+use Rattle.std.proofs.lemmas.Bool.{eq-eqb, eqb-true, or_left, or_right, or_cases}
 use Rattle.ring.specs.Headers.{doubled}
-
-pub doubled_here : (k g r : ℕ) → r ≡ g → doubled k g r ≡ true
-unfolding doubled
-doubled_here zero g r e = eq-eqb r g e
-doubled_here (suc k) g r e = or_left (eqb r g) (doubled k (2 * g) r) (eq-eqb r g e)
-
-pub doubled_on : (k g r : ℕ) → 0 < k → (r ≡ g → ⊥) → doubled k g r ≡ doubled (k - 1) (g * 2) r
-unfolding doubled
-doubled_on zero g r h n = absurd (not-suc-le-zero h)
-doubled_on (suc k) g r h n =
-    let d : suc k - 1 ≡ k = omega arith in
-    rw (ne_eqb r g n, d) (ap (λ (x : ℕ). doubled k x r) (mul_comm 2 g))
-
-pub doubled_last : (k g r : ℕ) → k ≡ 0 → doubled k g r ≡ eqb r g
-unfolding doubled
-doubled_last k g r e = rw e refl
 
 pub power_on : (r i : ℕ) → r ≡ 4096 * 2 ^ i → r * 2 ≡ 4096 * 2 ^ (i + 1)
 power_on r i e = rw (e, add-one, pow-suc 2 i) (mul_assoc 4096 (2 ^ i) 2)
-
-pub power_small : (r i : ℕ) → i < 12 → r ≡ 4096 * 2 ^ i → r * 2 ≤ 16777216
-power_small r i h e = omega (arith, e, pow_mono {i = i} {j = 11} (omega arith))
 
 pub doubled_power : (k g r : ℕ) → doubled k g r ≡ true → (j : ℕ) × (j ≤ k) × (r ≡ g * 2 ^ j)
 unfolding doubled

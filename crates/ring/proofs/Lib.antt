@@ -16,3 +16,4 @@ pub mod Adding
 pub mod Removing
 pub mod Growing
 pub mod RingLengths
+pub mod Heads

@@ -7,14 +7,11 @@ use Rattle.ring.specs.Ring.{place}
 use Rattle.ring.specs.Headers.{SoundHeader}
 use Rattle.ring.specs.Reading.{Records, BrokenRecord, before, breaks, walk}
 use Rattle.ring.specs.Walking.{position, left, rest, Passed, Broken}
-use Rattle.ring.proofs.Soundness.{sound_means, sound_least, sound_most}
+use Rattle.ring.proofs.Soundness.{sound_means, sound_most}
 use Rattle.ring.proofs.Walked.{broken_from, walk_none, walk_on, walk_ends}
 
 pub walk_sound : (k : Walk) → SoundHeader 16 k.size k.header.ring k.header.count k.header.first k.header.last
 walk_sound k = sound_means 16 k.size k.header.ring k.header.count k.header.first k.header.last k.sound
-
-pub walk_least : (k : Walk) → 4096 ≤ k.header.ring
-walk_least k = sound_least 16 k.size k.header.ring k.header.count k.header.first k.header.last k.sound
 
 pub walk_most : (k : Walk) → k.header.ring ≤ 16777216
 walk_most k = sound_most 16 k.size k.header.ring k.header.count k.header.first k.header.last k.sound

@@ -8,6 +8,7 @@
 use Rattle.std.specs.Prelude.{◌≡◌, ℕ, ◌+◌, ◌-◌, ◌<◌, true, false, ◌⊎◌, Ok, Err, Result}
 use Rattle.ring.specs.declared.header.Header.{Header}
 use Rattle.ring.specs.declared.walk.Walk.{Walk}
+use Rattle.ring.specs.declared.walk.BrokenRecord.{BrokenRecord}
 use Rattle.ring.specs.Layout.{header_width, longest_read}
 use Rattle.ring.specs.Ring.{place}
 use Rattle.ring.specs.Reading.{Found, breaks, walk}
@@ -37,9 +38,9 @@ pub record Broken (n p : ℕ) (k k' : Walk) : Type 0 where
   pub there : p ≡ place header_width k.header.ring (position k)
   pub same : k' ≡ k
 
-abbrev pub OnPass : ℕ → Walk → Walk → Result (Unit {0}) ℕ → Type 0
+abbrev pub OnPass : ℕ → Walk → Walk → Result (Unit {0}) BrokenRecord → Type 0
 OnPass n k k' (Ok _) = Passed n k k'
-OnPass n k k' (Err p) = Broken n p k k'
+OnPass n k k' (Err e) = Broken n e.at k k'
 
 -- what the elements to come are, by the bytes f along the ring
 abbrev pub rest : (ℕ → ℕ) → Walk → Found

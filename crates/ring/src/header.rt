@@ -4,6 +4,8 @@ ghost use Rattle.ring.specs.Bytes.{at, number};
 ghost use Rattle.ring.specs.Layout.{header_width, least_ring, doublings};
 ghost use Rattle.ring.specs.Headers.{header_of, cell, doubled, placed, sound};
 
+use crate::steps::largest_ring;
+
 // The bytes of the header; the positions of the ring begin behind it.
 pub const HEADER: usize = 16;
 
@@ -13,6 +15,9 @@ pub const LEAST_RING: u32 = 4_096;
 // How often the shortest ring can be doubled within the largest card.
 pub const DOUBLINGS: u32 = 12;
 
+// The length of the longest ring.
+pub const LONGEST_RING: u32 = LEAST_RING << DOUBLINGS;
+
 #[derive(Clone, Copy, PartialEq, Eq, Debug)]
 pub struct Header {
     pub ring: u32,
@@ -21,28 +26,21 @@ pub struct Header {
     pub last: u32,
 }
 
-// Four named bytes, joined big-endian, and the rest.
+// Four named bytes, joined big-endian, and the rest. By a pattern that names them, as the format's
+// rule does, and not by a chunk.
 fn take_number(bytes: &[u8]) -> Option<(u32, &[u8])>
     ensures { MatchOption result (length bytes.now < 4) (λ p. (4 ≤ length bytes.now) × (p.0 ≡ number (at bytes.now) 0) × (p.1.now ≡ drop 4 bytes.now)) }
 {
     let [a, b, c, d, rest @ ..] = bytes else {
         return None;
     };
-    let n = ((*a as u32 * 256 + *b as u32) * 256 + *c as u32) * 256 + *d as u32;
-    Some((n, rest))
+    Some((u32::from_be_bytes([*a, *b, *c, *d]), rest))
 }
 
 fn is_ring_length(ring: u32) -> bool
     ensures { result ≡ doubled doublings least_ring ring }
 {
-    let mut length = LEAST_RING;
-    for _i in 0..DOUBLINGS {
-        if ring == length {
-            return true;
-        }
-        length *= 2;
-    }
-    ring == length
+    largest_ring(ring as usize) == ring as usize
 }
 
 impl Header {
@@ -54,7 +52,8 @@ impl Header {
         last: 0,
     };
 
-    // The header in front of these bytes; none where they are too few.
+    // The header in front of these bytes; none where they are too few. This and `cell` are no `From`,
+    // since their names say which bytes it is about.
     pub fn parse(bytes: &[u8]) -> Option<Header>
         ensures { MatchOption result (length bytes.now < header_width) (λ h. (header_width ≤ length bytes.now) × (h ≡ header_of bytes.now)) }
     {
@@ -71,7 +70,7 @@ impl Header {
     }
 
     // The header's bytes.
-    pub fn cell(self) -> [u8; 16]
+    pub fn cell(self) -> [u8; HEADER]
         ensures { result ≡ cell self }
     {
         let [a, b, c, d] = self.ring.to_be_bytes();
@@ -87,7 +86,8 @@ impl Header {
         if self.count == 0 {
             return self.first == 0 && self.last == 0;
         }
-        16 <= self.first && self.first < self.ring && 16 <= self.last && self.last < self.ring
+        let ring = HEADER as u32..self.ring;
+        ring.contains(&self.first) && ring.contains(&self.last)
     }
 
     // Whether a card of this size may have these numbers.

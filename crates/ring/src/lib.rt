@@ -10,6 +10,7 @@
 pub mod head;
 pub mod header;
 pub mod law;
+pub mod place;
 pub mod steps;
 pub mod walk;
 pub mod walking;

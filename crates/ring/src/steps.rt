@@ -3,7 +3,7 @@
 ghost use Rattle.std.specs.Prelude.{◌≡◌};
 ghost use Rattle.ring.specs.Steps.{largest_ring, grown_length, AddLaw, RemoveLaw, ClearLaw, GrowLaw, KeepLaw, FreeLaw, BehindLaw, LargestLaw, GrownLaw};
 
-use crate::header::{DOUBLINGS, LEAST_RING};
+use crate::header::{DOUBLINGS, LEAST_RING, LONGEST_RING};
 
 // Carries the laws of the steps in its contract: what a card reads as after an add, a removal, a
 // clear and a growth, and what may change on it while its list stays. It computes nothing.
@@ -23,26 +23,15 @@ pub fn step_laws()
 pub fn largest_ring(size: usize) -> usize
     ensures { result ≡ largest_ring size }
 {
-    let mut length = LEAST_RING as usize;
-    for _i in 0..DOUBLINGS {
-        if size < length * 2 {
-            return length;
-        }
-        length *= 2;
-    }
-    length
+    let room = size.clamp(LEAST_RING as usize, LONGEST_RING as usize);
+    1 << room.ilog2()
 }
 
 // The length of a ring, doubled until it holds so many bytes.
 pub fn grown_length(ring: u32, need: usize) -> usize
     ensures { result ≡ grown_length ring need }
 {
-    let mut length = ring as usize;
-    for _i in 0..DOUBLINGS {
-        if need <= length {
-            return length;
-        }
-        length *= 2;
-    }
-    length
+    let ring = ring as usize;
+    let doublings = (0..DOUBLINGS).find(|&k| need <= ring << k);
+    ring << doublings.unwrap_or(DOUBLINGS)
 }

@@ -1,12 +1,13 @@
 // A walk along the elements, which is told each length as it is read.
-ghost use Rattle.std.specs.Prelude.{◌≡◌, ◌+◌, ◌≤◌, true, false, MatchOption, nat_le};
+ghost use Rattle.std.specs.Prelude.{◌≡◌, ◌+◌, ◌<◌, ◌≤◌, true, false, MatchOption, nat_le};
 ghost use Rattle.ring.specs.Layout.{header_width};
 ghost use Rattle.ring.specs.Ring.{place};
 ghost use Rattle.ring.specs.Headers.{sound};
 ghost use Rattle.ring.specs.Walking.{position, Begun, OnPass};
 
 use crate::header::{HEADER, Header};
-use crate::walk::Walk;
+use crate::place::{Place, place_of};
+use crate::walk::{BrokenRecord, Walk};
 
 // The longest record that a walk accepts.
 pub const LONGEST_READ: usize = 65_535;
@@ -31,13 +32,27 @@ impl Walk {
         })
     }
 
-    // Where the next element is, or would be.
+    // Where the next element is, or would be; a number and no `Place`, since a ring without elements
+    // has none.
     pub fn place(&self) -> usize
         ensures { result ≡ place header_width self.now.header.ring (position self.now) }
     {
-        let ring = self.header.ring as usize;
-        let at = self.header.first as usize + self.used - HEADER;
-        if at < ring { at } else { at + HEADER - ring }
+        place_of(
+            self.header.ring as usize,
+            self.header.first as usize + self.used - HEADER,
+        )
+    }
+
+    // Where it is, on the ring.
+    pub fn next_place(&self) -> Place
+        requires { self.now.passed < self.now.header.count }
+        ensures ring { result.ring ≡ self.now.header.ring }
+        ensures at { result.at ≡ place header_width self.now.header.ring (position self.now) }
+    {
+        Place {
+            ring: self.header.ring as usize,
+            at: self.place(),
+        }
     }
 
     // Whether the ring has room for another length field.
@@ -47,18 +62,18 @@ impl Walk {
         self.used + LENGTH <= self.header.ring as usize
     }
 
-    // Passes an element of n bytes; a broken one is told by its place, and so is one too many.
-    pub fn pass(&mut self, n: u32) -> Result<(), usize>
+    // Passes an element of n bytes, unless it is broken, or one too many.
+    pub fn pass(&mut self, n: u32) -> Result<(), BrokenRecord>
         ensures { OnPass n self.old self.new result }
     {
-        let place = self.place();
+        let at = self.place();
         let left = self.header.count - self.passed;
         if left == 0 || n as usize > LONGEST_READ {
-            return Err(place);
+            return Err(BrokenRecord { at });
         }
         let used = self.used + LENGTH + n as usize;
-        if used > self.header.ring as usize || left == 1 && place != self.header.last as usize {
-            return Err(place);
+        if used > self.header.ring as usize || left == 1 && at != self.header.last as usize {
+            return Err(BrokenRecord { at });
         }
         self.passed += 1;
         self.used = used;

@@ -1,45 +1,11 @@
 -- Calls within the size by their answers, and steps one after another, by the meaning alone.
-use Rattle.std.proofs.Common.{◌≡◌, ℕ, ◌+◌, ◌≤◌, List, length, Ok, Err, Result, sym, refl, ap, ◌∙◌, subst, inl, inr, arith}
+use Rattle.std.proofs.lemmas.List.{ext_get_or}
+use Rattle.std.proofs.Common.{◌≡◌, ℕ, List, length, Ok, Err, Result, sym, refl, ap, ◌∙◌, subst, inl, inr, arith}
 use Rattle.std.proofs.lemmas.Bool.{cases_lt, both_ways}
-use Rattle.storage.specs.declared.refusal.Refusal.{Refusal}
-use Rattle.storage.specs.declared.refusal.Refusal.TheVariants.{Outside, Gone}
 use Rattle.storage.specs.Cells.{laid}
-use Rattle.storage.specs.Refusals.{Answer, Told}
 use Rattle.storage.specs.Meaning.{Meaning, Within, Same}
-use Rattle.storage.specs.Calls.{Arrives, ReadDone, ReadEnded, WriteDone, OnRead, OnWrite, OnSync}
-use Rattle.storage.specs.Inside.{Still, Lost, OnReadInside, OnWriteInside, OnSyncInside}
-use Rattle.storage.specs.Layers.{lowered, Inside}
-use Rattle.storage.proofs.Lists.{same}
-
-module _ {O G : Type 0} (tells : Refusal O G → Told) (name : List ℕ) (m m' : Meaning) where
-  -- a call within the size is not answered OUTSIDE
-  pub read_inside : (o : ℕ) (old new : List ℕ) (x : Answer O G) → o + length old ≤ m.size → OnRead tells name o old new m m' x → Inside x
-  read_inside o old new (Ok _) fits d = tt
-  read_inside o old new (Err (Outside f)) fits d = omega (arith, d.1.past)
-  read_inside o old new (Err (Gone f)) fits d = tt
-
-  pub write_inside : (o : ℕ) (b : List ℕ) (x : Answer O G) → o + length b ≤ m.size → OnWrite tells name o b m m' x → Inside x
-  write_inside o b (Ok _) fits d = tt
-  write_inside o b (Err (Outside f)) fits d = omega (arith, d.1.past)
-  write_inside o b (Err (Gone f)) fits d = tt
-
-  pub sync_inside : (x : Answer O G) → OnSync tells name m m' x → Inside x
-  sync_inside (Ok _) d = tt
-  sync_inside (Err (Outside f)) d = d
-  sync_inside (Err (Gone f)) d = tt
-
-  -- what it did, by its result
-  pub on_read_inside : (o : ℕ) (old new : List ℕ) (r : Result (Unit {0}) G) → OnRead tells name o old new m m' (lowered r) → OnReadInside o old new m m' r
-  on_read_inside o old new (Ok _) d = d
-  on_read_inside o old new (Err f) d = d.1
-
-  pub on_write_inside : (o : ℕ) (b : List ℕ) (r : Result (Unit {0}) G) → OnWrite tells name o b m m' (lowered r) → OnWriteInside o b m m' r
-  on_write_inside o b (Ok _) d = d
-  on_write_inside o b (Err f) d = d.1
-
-  pub on_sync_inside : (r : Result (Unit {0}) G) → OnSync tells name m m' (lowered r) → OnSyncInside m m' r
-  on_sync_inside (Ok _) d = d
-  on_sync_inside (Err f) d = d.1
+use Rattle.storage.specs.Calls.{Arrives, ReadDone, ReadEnded, WriteDone}
+use Rattle.storage.specs.Inside.{Still, Lost, OnSyncInside}
 
 pub same_self : (m : Meaning) → Same m m
 same_self m = record { size = refl; visible = refl; lives = refl; fewer = λ s h. h; more = λ s h. h }
@@ -108,5 +74,5 @@ still_sync m m₁ m₂ (Err f) a d =
 pub arrives_nothing : (o : ℕ) (b : List ℕ) (m m' : Meaning) → length b ≡ 0 → Arrives o b m m' → Within m' m
 arrives_nothing o b m m' z a s h =
     let x = a s h in
-    let q : s ≡ x.0 = same 0 s x.0 x.2.long (λ k l. x.2.apart k (elim (cases_lt k o) [ inl y ↦ inl y | inr y ↦ inr (omega arith) ])) in
+    let q : s ≡ x.0 = ext_get_or 0 s x.0 x.2.long (λ k l. x.2.apart k (elim (cases_lt k o) [ inl y ↦ inl y | inr y ↦ inr (omega arith) ])) in
     subst (λ (y : List ℕ). m.stands y) (sym q) x.1

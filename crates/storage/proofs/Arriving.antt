@@ -2,12 +2,12 @@
 use Rattle.std.proofs.Common.{◌≡◌, ℕ, ◌+◌, ◌-◌, ◌*◌, ◌/◌, ◌<◌, ◌≤◌, Bool, true, false, cond, not, ◌&&◌, ◌⊎◌, List, ◌++◌, map, length, get_or, take, sym, refl, ap, ◌∙◌, subst, inl, inr, arith, length-take}
 use native.Mathlib.Nat.{div-div-eq-div-mul}
 use Rattle.std.specs.List.{range_with_len}
-use Rattle.std.proofs.lemmas.List.{get_or_past, get_or-take, get_or_append_left, get_or-append_right, length-append, take_all}
+use Rattle.std.proofs.lemmas.List.{get_or_past, get_or-take, get_or_append_left, get_or-append_right, length-append, take_all, ext_get_or}
 use Rattle.std.proofs.lemmas.List.FromFn.{length-map-range_with_len}
 use Rattle.std.proofs.lemmas.Bool.{cases_Bool, and_parts, not-true, both_ways, cond-true, cond-false}
 use Rattle.storage.specs.Cells.{laid, InCell, Partly}
 use Rattle.storage.specs.Standing.{Standing, InPart}
-use Rattle.storage.proofs.Lists.{laid_apart, laid_within, length_laid, same, made_at, cell_from, cell_to}
+use Rattle.storage.proofs.Lists.{laid_apart, laid_within, length_laid, made_at, cell_from, cell_to}
 
 -- nothing of a write need arrive
 pub partly_none : (w o : ℕ) (b s : List ℕ) → Partly w o b s s
@@ -64,7 +64,7 @@ partly_join w o a c t u s pos uncut p q =
 -- once the durable and the visible bytes agree and none is torn, they alone may stand
 pub settled : (w : ℕ) (d v : List ℕ) (t : List Bool) (s : List ℕ) → d ≡ v → ((k : ℕ) → get_or t k false ≡ false) → Standing w d v t s → s ≡ v
 settled w d v t s e clean h =
-    same 0 s v (h.long ∙ ap length e)
+    ext_get_or 0 s v (h.long ∙ ap length e)
     (λ k l. elim (h.cells (k / w)) [ inl f ↦ f k refl | inr f ↦ f k refl (clean k) ∙ ap (λ (x : List ℕ). get_or x k 0) e ])
 
 abbrev is_left : {A B : Type 0} → A ⊎ B → Bool

@@ -1,7 +1,7 @@
 -- Bytes that are laid over others, and lists by their elements.
 use Rattle.std.proofs.Common.{◌≡◌, ℕ, ◌+◌, ◌-◌, ◌*◌, ◌/◌, ◌<◌, ◌≤◌, ◌⊎◌, List, [], ◌++◌, map, length, get_or, drop, sym, ap, ◌∙◌, inl, inr, add-zero, mul-add, arith, rules}
 use native.Mathlib.Nat.{mul-div-le, lt-mul-div-succ}
-use Rattle.std.proofs.lemmas.List.{same_lists, get_or_default, get_or_past, get_or_append_left, get_or-append_right, get_or-take, get_or-drop, length-append, take-append-drop, places}
+use Rattle.std.proofs.lemmas.List.{get_or_past, get_or_append_left, get_or-append_right, get_or-take, get_or-drop, length-append, take-append-drop, places, ext_get_or}
 use Rattle.std.proofs.lemmas.List.FromFn.{get_or-map-range_with_len, length-map-range_with_len}
 use Rattle.std.proofs.lemmas.Bool.{cases_lt}
 use Rattle.std.specs.List.{range_with_len}
@@ -20,10 +20,6 @@ length_laid o b v fits = search (rules, places)
 pub laid_none : (o : ℕ) (v : List ℕ) → laid o [] v ≡ v
 laid_none o v = rw add-zero (take-append-drop o v)
 
--- lists of one length that agree at each place are equal
-pub same : {X : Type 0} (d : X) (xs ys : List X) → length xs ≡ length ys → ((k : ℕ) → k < length xs → get_or xs k d ≡ get_or ys k d) → xs ≡ ys
-same d xs ys e f = same_lists xs ys e (λ k z l. get_or_default xs k z d l ∙ f k l ∙ get_or_default ys k d z (omega arith))
-
 -- a range that is laid in two pieces
 pub laid_laid : (o n : ℕ) (a c v : List ℕ) → length a ≡ n → o + n + length c ≤ length v → laid (o + n) c (laid o a v) ≡ laid o (a ++ c) v
 laid_laid o n a c v la fits =
@@ -32,7 +28,7 @@ laid_laid o n a c v la fits =
     let one = length_laid o a v first in
     let second : o + n + length c ≤ length (laid o a v) = omega arith in
     let both : o + length (a ++ c) ≤ length v = omega arith in
-    same 0 (laid (o + n) c (laid o a v)) (laid o (a ++ c) v)
+    ext_get_or 0 (laid (o + n) c (laid o a v)) (laid o (a ++ c) v)
     (length_laid (o + n) c (laid o a v) second ∙ one ∙ sym (length_laid o (a ++ c) v both))
     (λ k l. elim (cases_lt k o) [
       | inl x ↦ laid_apart (o + n) c (laid o a v) k second (inl (omega arith)) ∙ laid_apart o a v k first (inl x) ∙ sym (laid_apart o (a ++ c) v k both (inl x))

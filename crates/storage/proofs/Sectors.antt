@@ -1,9 +1,11 @@
 -- Sectors, one after another: how many are touched, and what is written piece by piece.
-use Rattle.std.proofs.Common.{◌≡◌, ℕ, zero, suc, ◌+◌, ◌-◌, ◌/◌, ◌%◌, ◌<◌, ◌≤◌, min, ◌⊎◌, List, ◌++◌, length, take, drop, sym, ap, ◌∙◌, inl, inr, not-suc-le-zero, arith, length-drop, length-take}
-use Rattle.std.proofs.lemmas.List.{take-append-drop, take-take, drop-take}
+use Rattle.std.proofs.Common.{◌≡◌, ℕ, zero, suc, ◌+◌, ◌-◌, ◌/◌, ◌%◌, ◌<◌, ◌≤◌, min, ◌⊎◌, List, length, take, drop, sym, ap, ◌∙◌, inl, inr, not-suc-le-zero, arith, length-drop, length-take}
+use Rattle.std.proofs.Math.Seq.{take-add}
 use Rattle.std.proofs.lemmas.Bool.{cases_lt}
 use Rattle.storage.specs.Cells.{laid}
-use Rattle.storage.specs.Sectors.{touched}
+use Rattle.storage.specs.Sectors.{touched, Next}
+use Rattle.storage.specs.declared.piece.Piece.{Piece}
+use Rattle.storage.specs.declared.piece.Pieces.{Pieces}
 use Rattle.storage.proofs.Lists.{laid_laid}
 
 -- n bytes at o end with a sector, or there are none
@@ -37,11 +39,14 @@ touched_less o n m (inr a) h = elim (cases_lt 0 n) [
 pub even_more : (o n rest : ℕ) → Even o n → 0 < rest → (Even o (n + min (512 - (o + n) % 512) rest)) ⊎ (n + min (512 - (o + n) % 512) rest ≡ n + rest)
 even_more o n rest e p = elim (cases_lt rest (512 - (o + n) % 512)) [ inl x ↦ inr (omega arith) | inr x ↦ inl (inr (omega arith)) ]
 
-pub take_split : (n m : ℕ) (b : List ℕ) → take n b ++ take m (drop n b) ≡ take (n + m) b
-take_split n m b =
-    ap (λ (x : List ℕ). x ++ take m (drop n b)) (sym (take-take n (n + m) b (omega arith)))
-    ∙ ap (λ (x : List ℕ). take n (take (n + m) b) ++ x) (sym (drop-take n m b))
-    ∙ take-append-drop n (take (n + m) b)
+-- while bytes are left, those that are done end with a sector
+pub evenly : (o done n : ℕ) → done < n → Even o done ⊎ (done ≡ n) → Even o done
+evenly o done n lt (inl e) = e
+evenly o done n lt (inr e) = absurd (omega arith)
+
+-- where the piece that comes next ends
+pub next_end : (o n : ℕ) (s : Pieces) (p : Piece) (t : Pieces) → Next s p t → s.offset ≡ o → s.count ≡ n → p.to ≡ s.done + min (512 - (o + s.done) % 512) (n - s.done)
+next_end o n s p t x from all = x.to ∙ ap (λ (k : ℕ). s.done + min (512 - (k + s.done) % 512) (s.count - s.done)) from ∙ ap (λ (k : ℕ). s.done + min (512 - (o + s.done) % 512) (k - s.done)) all
 
 -- the bytes after one piece more, as the code takes it out of the write
 pub piece_more : (o n m : ℕ) (b v : List ℕ) → n + m ≤ length b → o + length b ≤ length v →
@@ -52,4 +57,4 @@ piece_more o n m b v le fits =
     let more : length (take m (drop n b)) ≡ m = length-take m (drop n b) ∙ omega (arith, length-drop n b) in
     ap (λ (k : ℕ). laid (o + n) (take k (drop n b)) (laid o (take n b) v)) size
     ∙ laid_laid o n (take n b) (take m (drop n b)) v front (omega arith)
-    ∙ ap (λ (x : List ℕ). laid o x v) (take_split n m b)
+    ∙ ap (λ (x : List ℕ). laid o x v) (sym (take-add n m b))

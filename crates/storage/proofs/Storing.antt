@@ -1,4 +1,5 @@
 -- A write and a sync, by the meaning alone.
+use Rattle.std.proofs.lemmas.List.{ext_get_or}
 use Rattle.std.proofs.Common.{◌≡◌, ℕ, ◌+◌, ◌/◌, ◌≤◌, ◌⊎◌, List, length, Ok, Err, sym, ◌∙◌, subst, inl, inr, arith}
 use Rattle.std.proofs.lemmas.Bool.{cases_lt}
 use Rattle.storage.specs.declared.refusal.Refusal.{Refusal}
@@ -8,7 +9,7 @@ use Rattle.storage.specs.Refusals.{Answer, Told}
 use Rattle.storage.specs.Meaning.{Meaning, Lawful, Only}
 use Rattle.storage.specs.Calls.{WriteDone, OnWrite, OnSync}
 use Rattle.storage.specs.Stores.{OnStore, OldOrNew, WholeCell}
-use Rattle.storage.proofs.Lists.{laid_apart, laid_within, length_laid, same}
+use Rattle.storage.proofs.Lists.{laid_apart, laid_within, length_laid}
 
 module _ {O G : Type 0} (tells : Refusal O G → Told) (name : List ℕ) (o : ℕ) (b : List ℕ) (m : Meaning) where
   pub declined : (m₁ : Meaning) (e : Refusal O G) → OnWrite tells name o b m m₁ (Err e) → OnStore {O = O} {G = G} o b m m₁ (Err e)
@@ -38,11 +39,11 @@ pub whole_cell : (o : ℕ) (b v s : List ℕ) → WholeCell o (length b) → o +
 whole_cell o b v s c fits p =
     let n = c.wide in let a = c.aligned in
     elim (p.whole (o / 16) (omega arith) (omega arith)) [
-      | inl old ↦ inl (same 0 s v p.long (λ k l. elim (cases_lt k o) [
+      | inl old ↦ inl (ext_get_or 0 s v p.long (λ k l. elim (cases_lt k o) [
         | inl x ↦ p.apart k (inl x)
         | inr x ↦ elim (cases_lt k (o + length b)) [ inl y ↦ old k (omega arith) | inr y ↦ p.apart k (inr y) ]
       ]))
-      | inr new ↦ inr (same 0 s (laid o b v) (p.long ∙ sym (length_laid o b v fits)) (λ k l. elim (cases_lt k o) [
+      | inr new ↦ inr (ext_get_or 0 s (laid o b v) (p.long ∙ sym (length_laid o b v fits)) (λ k l. elim (cases_lt k o) [
         | inl x ↦ p.apart k (inl x) ∙ sym (laid_apart o b v k fits (inl x))
         | inr x ↦ elim (cases_lt k (o + length b)) [
           | inl y ↦ new k (omega arith) ∙ sym (laid_within o b v k fits x y)

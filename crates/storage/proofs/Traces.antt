@@ -1,4 +1,5 @@
 -- Calls one after another, and calls after calls.
+use Rattle.std.proofs.ByRecursion.{All-append}
 use Rattle.std.proofs.Common.{◌≡◌, ℕ, ◌+◌, ◌≤◌, List, [], ◌∷◌, ◌++◌, Ok, Err, Result, refl, subst, inl, inr, arith}
 use Rattle.std.proofs.lemmas.List.{length-append}
 use Rattle.std.specs.List.{AllByRecursion}
@@ -6,10 +7,6 @@ use Rattle.storage.specs.Refusals.{Answer}
 use Rattle.storage.specs.Calls.{Call}
 use Rattle.storage.specs.Layers.{lowered}
 use Rattle.storage.specs.Traces.{Through, Made, Asked}
-
-pub every_append : {A : Type 0} (P : A → Type 0) (xs ys : List A) → AllByRecursion P xs → AllByRecursion P ys → AllByRecursion P (xs ++ ys)
-every_append P [] ys a b = b
-every_append P (x ∷ xs) ys a b = (a.0, every_append P xs ys a.1 b)
 
 every_weaker : {A : Type 0} (P Q : A → Type 0) (xs : List A) → ((x : A) → P x → Q x) → AllByRecursion P xs → AllByRecursion Q xs
 every_weaker P Q [] f a = tt
@@ -62,7 +59,7 @@ module _ {S O G : Type 0} (did : S → Call → Answer O G → S → Type 0) (P 
   pub asked_then : {A B : Type 0} (m n : ℕ) (a : A) (r : Result B G) (s t u : S) → Asked did P m (Ok a) s t → Asked did P n r t u → Asked did P (m + n) r s u
   asked_then m n a (Ok b) s t u x y = (
     x.0 ++ y.0,
-    every_append P x.0 y.0 x.1 y.1,
+    All-append P x.0 y.0 x.1 y.1,
     omega (arith, x.2, y.2, length-append x.0 y.0),
     through_more did x.0 y.0 s t u x.3 y.3,
   )
@@ -70,7 +67,7 @@ module _ {S O G : Type 0} (did : S → Call → Answer O G → S → Type 0) (P 
       let z = y.5 in (
         x.0 ++ y.0,
         y.1,
-        every_append P x.0 y.0 x.1 y.2,
+        All-append P x.0 y.0 x.1 y.2,
         y.3,
         omega (arith, x.2, y.4, length-append x.0 y.0),
         (z.0, through_more did x.0 y.0 s t z.0 x.3 z.1, z.2),

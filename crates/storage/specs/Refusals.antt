@@ -2,12 +2,13 @@
 --   Step           a storage's name, and the offset that it was called with
 --   spelled n      the letters of the name n
 --   step l         what the link l says
+--   printed l      the link l in brackets: the name, a space, and the offset in decimal
 --   nth xs i       the element i of xs, if there is one
 --   Answer O G     what a storage answers to a call
 --   number r       the number of a refusal
 --   told f g r     the number of a refusal with the chain of its fault, the top first
 --   Tells n m o t  t is the refusal of number n by the storage m, called with the offset o
-use Rattle.std.specs.Prelude.{◌≡◌, ℕ, zero, suc, List, [], ◌∷◌, Some, None, codes, Option, Result}
+use Rattle.std.specs.Prelude.{◌≡◌, ℕ, zero, suc, List, [], ◌∷◌, ◌++◌, Some, None, codes, decimal, Option, Result}
 use Rattle.storage.specs.declared.refusal.Link.{Link}
 use Rattle.storage.specs.declared.refusal.Name.{Name}
 use Rattle.storage.specs.declared.refusal.Name.TheVariants.{Image, Sector, Partition, Cache, Other}
@@ -27,6 +28,9 @@ spelled Other = codes "other"
 
 abbrev pub step : Link → Step
 step l = record { name = spelled l.name; offset = l.offset }
+
+abbrev pub printed : Link → List ℕ
+printed l = codes "(" ++ (spelled l.name ++ (codes " " ++ (decimal l.offset ++ codes ")")))
 
 abbrev pub steps : Option Link → Option Step
 steps None = None

@@ -11,11 +11,11 @@ fn lower<O: Drop, G>(answer: Result<(), Refusal<O, G>>) -> Result<(), G>
     requires { Inside answer }
     ensures { lowered result ≡ answer }
 {
-    match answer {
-        Ok(()) => Ok(()),
-        Err(Refusal::Gone(fault)) => Err(fault),
-        Err(Refusal::Outside(_)) => unreachable(),
-    }
+    answer.map_err(|refusal| match refusal {
+        Refusal::Gone(fault) => fault,
+        // The contract rules this arm out; it is the one such place.
+        Refusal::Outside(_) => unreachable(),
+    })
 }
 
 pub fn read_inside<S: Storage>(s: &mut S, offset: usize, buf: &mut [u8]) -> Result<(), S::Gone>

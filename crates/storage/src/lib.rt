@@ -6,10 +6,14 @@
 // every kind of storage and on every stack of layers.
 #![tactic(auto)]
 
+pub mod cells;
 pub mod client;
 pub mod cuttable;
 pub mod inside;
+pub mod layer;
 pub mod life;
+pub mod piece;
+pub mod pieces;
 pub mod refusal;
 pub mod sizes;
 pub mod storage;

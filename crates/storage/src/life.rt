@@ -2,6 +2,7 @@
 ghost use Rattle.std.specs.Prelude.{◌≡◌};
 ghost use Rattle.storage.specs.Lives.{spent};
 
+// No Option: `None` would read as no life, which is what `spend` says by it.
 #[derive(Clone, Copy, PartialEq, Eq, Debug)]
 pub enum Life {
     Endless,
@@ -15,13 +16,7 @@ impl Life {
     {
         match self {
             Life::Endless => Some(Life::Endless),
-            Life::Left(steps) => {
-                if steps == 0 {
-                    None
-                } else {
-                    Some(Life::Left(steps - 1))
-                }
-            }
+            Life::Left(steps) => steps.checked_sub(1).map(Life::Left),
         }
     }
 }

@@ -14,7 +14,7 @@ const MOST_SIZE: usize = 16_777_216;
 pub fn keeps_size_rule(size: usize) -> bool
     ensures { Decides result (SizeRule size) }
 {
-    size % SECTOR == 0 && size >= LEAST_SIZE && size <= MOST_SIZE
+    size % SECTOR == 0 && (LEAST_SIZE..=MOST_SIZE).contains(&size)
 }
 
 // Whether a range passes the size. No sum is formed, so none is too large.

@@ -6,6 +6,8 @@ ghost use Rattle.storage.specs.Refusals.{Answer, told};
 
 use crate::refusal::{Chain, Refusal};
 
+// That the storage is in order is asked of each call and not a fact of a type around it: code
+// that only passes the storage on would not learn it from the type.
 pub trait Storage {
     // The fault of a call past the size.
     type Outside: Chain + Drop;
@@ -17,9 +19,6 @@ pub trait Storage {
     ghost name: { List ℕ };
 
     ghost means: { Self → Meaning };
-
-    // The laws that its meaning keeps while it is in order.
-    ghost lawful: { (s : Self) → (means s).in_order → Lawful (means s) };
 
     // What its kind promises of a call and its answer, beyond the meaning: exactly when it
     // is gone, what its fault holds, which calls it makes below, and in what order.
@@ -54,4 +53,7 @@ pub trait Storage {
         ensures in_order { (means self.new).in_order }
         ensures does { OnSync (told Self.Outside.Chain.links Self.Gone.Chain.links) name (means self.old) (means self.new) result }
         ensures did { did self.old Syncing result self.new };
+
+    // What its meaning keeps while it is in order: every `impl` proves it.
+    ghost lawful: { (s : Self) → (means s).in_order → Lawful (means s) };
 }

@@ -2,23 +2,18 @@
 // ends, what each choice of a cut leaves, and how faults come up through stacks of layers.
 #![tactic(auto)]
 
-use storage::refusal::Refusal;
-
 #[cfg(test)]
 mod image;
+#[cfg(test)]
+mod memory;
 #[cfg(test)]
 mod sector;
 #[cfg(test)]
 mod stack;
 
-// 0 for a call that was served, else the number of its refusal.
-pub fn number<O: Drop, G: Drop>(answer: Result<(), Refusal<O, G>>) -> u8 {
-    match answer {
-        Ok(()) => 0,
-        Err(refusal) => refusal.number(),
-    }
-}
+use storage::refusal::Refusal;
 
-pub fn same(a: &[u8], b: &[u8]) -> bool {
-    a == b
+// The number of the refusal, where a call was declined.
+pub fn refused<O: Drop, G: Drop>(answer: Result<(), Refusal<O, G>>) -> Option<u8> {
+    answer.err().map(|refusal| refusal.number())
 }

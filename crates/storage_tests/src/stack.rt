@@ -1,7 +1,8 @@
-use crate::{number, same};
+use crate::memory::filled;
+use crate::refused;
 use cache::cache::Cache;
-use devices::image::{Image, ImageParts};
-use devices::sector::{SectorDevice, SectorParts};
+use devices::image::Image;
+use devices::sector::SectorDevice;
 use partition::Partition;
 use std::process::Abort;
 use std::test::Fail;
@@ -15,17 +16,17 @@ fn waits_for_the_sync<C: Cuttable>(rt: &impl Abort, card: &mut C) -> Result<(), 
     ensures { (C.Storage.means card.new).in_order }
 {
     let mut buf = [0u8; 4];
-    assert_eq!(rt; number(card.write(510, b"abcd")), 0);
-    assert_eq!(rt; number(card.read(510, &mut buf)), 0);
-    assert!(rt; same(&buf[0..4], b"abcd"));
+    assert_eq!(rt; refused(card.write(510, b"abcd")), None);
+    assert_eq!(rt; refused(card.read(510, &mut buf)), None);
+    assert_eq!(rt; buf.as_slice(), b"abcd".as_slice());
     card.cut(&[1])?;
-    assert_eq!(rt; number(card.read(510, &mut buf)), 0);
-    assert!(rt; same(&buf[0..4], &[0u8; 4]));
-    assert_eq!(rt; number(card.write(510, b"abcd")), 0);
-    assert_eq!(rt; number(card.sync()), 0);
+    assert_eq!(rt; refused(card.read(510, &mut buf)), None);
+    assert_eq!(rt; buf.as_slice(), [0u8; 4].as_slice());
+    assert_eq!(rt; refused(card.write(510, b"abcd")), None);
+    assert_eq!(rt; refused(card.sync()), None);
     card.cut(&[0])?;
-    assert_eq!(rt; number(card.read(510, &mut buf)), 0);
-    assert!(rt; same(&buf[0..4], b"abcd"));
+    assert_eq!(rt; refused(card.read(510, &mut buf)), None);
+    assert_eq!(rt; buf.as_slice(), b"abcd".as_slice());
     Ok(())
 }
 
@@ -36,22 +37,14 @@ fn gone_link<O: Drop, G: Chain + Drop>(
 ) -> Option<Link> {
     match answer {
         Err(Refusal::Gone(fault)) => fault.link(i),
-        Err(Refusal::Outside(_)) => None,
-        Ok(()) => None,
+        Err(Refusal::Outside(_)) | Ok(()) => None,
     }
 }
 
 #[test]
 fn cache_over_a_partition_of_an_image(rt: HostRuntime) -> Result<(), Fail> {
-    let mut durable = vec![in rt.alloc(); 0u8; 8_704]?;
-    let mut visible = vec![in rt.alloc(); 0u8; 8_704]?;
-    let mut torn = vec![in rt.alloc(); false; 8_704]?;
-    let parts = ImageParts {
-        durable: &mut durable,
-        visible: &mut visible,
-        torn: &mut torn,
-    };
-    let Ok(image) = Image::mount(parts) else {
+    let mut memory = filled(rt.alloc(), 0u8, false, 8_704)?;
+    let Ok(image) = Image::mount(memory.image_parts()) else {
         return Err(Fail::new("not mounted"));
     };
     let Ok(part) = Partition::over(image, 512, 8_192) else {
@@ -65,13 +58,8 @@ fn cache_over_a_partition_of_an_image(rt: HostRuntime) -> Result<(), Fail> {
 
 #[test]
 fn partition_of_a_cache_over_a_sector_device(rt: HostRuntime) -> Result<(), Fail> {
-    let mut durable = vec![in rt.alloc(); 0u8; 8_704]?;
-    let mut visible = vec![in rt.alloc(); 0u8; 8_704]?;
-    let parts = SectorParts {
-        durable: &mut durable,
-        visible: &mut visible,
-    };
-    let Ok(device) = SectorDevice::mount(parts) else {
+    let mut memory = filled(rt.alloc(), 0u8, false, 8_704)?;
+    let Ok(device) = SectorDevice::mount(memory.sector_parts()) else {
         return Err(Fail::new("not mounted"));
     };
     let Ok(lines) = Cache::over(device, 16) else {
@@ -85,15 +73,8 @@ fn partition_of_a_cache_over_a_sector_device(rt: HostRuntime) -> Result<(), Fail
 
 #[test]
 fn write_back_below_a_read_names_each_offset(rt: HostRuntime) -> Result<(), Fail> {
-    let mut durable = vec![in rt.alloc(); 0u8; 8_704]?;
-    let mut visible = vec![in rt.alloc(); 0u8; 8_704]?;
-    let mut torn = vec![in rt.alloc(); false; 8_704]?;
-    let parts = ImageParts {
-        durable: &mut durable,
-        visible: &mut visible,
-        torn: &mut torn,
-    };
-    let Ok(image) = Image::mount(parts) else {
+    let mut memory = filled(rt.alloc(), 0u8, false, 8_704)?;
+    let Ok(image) = Image::mount(memory.image_parts()) else {
         return Err(Fail::new("not mounted"));
     };
     let Ok(part) = Partition::over(image, 512, 8_192) else {
@@ -102,7 +83,7 @@ fn write_back_below_a_read_names_each_offset(rt: HostRuntime) -> Result<(), Fail
     let Ok(mut card) = Cache::over(part, 1) else {
         return Err(Fail::new("no cache"));
     };
-    assert_eq!(rt; number(card.write(4_100, b"ab")), 0);
+    assert_eq!(rt; refused(card.write(4_100, b"ab")), None);
     card.set_life(0);
     let mut buf = [1u8; 2];
     let answer = card.read(528, &mut buf);
@@ -113,7 +94,7 @@ fn write_back_below_a_read_names_each_offset(rt: HostRuntime) -> Result<(), Fail
             offset: 4_608,
         })
     );
-    assert!(rt; same(&buf[0..2], &[0u8; 2]));
+    assert_eq!(rt; buf.as_slice(), [0u8; 2].as_slice());
     assert_eq!(rt;
         gone_link(card.read(16, &mut buf), 0),
         Some(Link {
@@ -133,13 +114,8 @@ fn write_back_below_a_read_names_each_offset(rt: HostRuntime) -> Result<(), Fail
 
 #[test]
 fn layers_refuse_what_does_not_fit(rt: HostRuntime) -> Result<(), Fail> {
-    let mut durable = vec![in rt.alloc(); 0u8; 8_704]?;
-    let mut visible = vec![in rt.alloc(); 0u8; 8_704]?;
-    let parts = SectorParts {
-        durable: &mut durable,
-        visible: &mut visible,
-    };
-    let Ok(device) = SectorDevice::mount(parts) else {
+    let mut memory = filled(rt.alloc(), 0u8, false, 8_704)?;
+    let Ok(device) = SectorDevice::mount(memory.sector_parts()) else {
         return Err(Fail::new("not mounted"));
     };
     let Err(refused) = Cache::over(device, 17) else {

@@ -18,8 +18,8 @@ copy_out-requires g c =
     let k = head_carried h in
     record {
       in_order = c.requires.held.1.in_order;
-      source = omega (arith, c.carried_of.ensures);
-      target = omega (arith, c.carried_of.ensures, c.requires.twice, c.requires.fits, c.requires.held.1.size_is);
+      source = omega (arith, c.carried.ensures);
+      target = omega (arith, c.carried.ensures, c.requires.twice, c.requires.fits, c.requires.held.1.size_is);
     }
 
 pub returns-in_err-copy_out : goal.returns-in_err-copy_out
@@ -31,11 +31,11 @@ returns-in_err-copy_out g c =
     let t = c.copy_out.new.s in
     let f = c.in_err-copy_out.field-0.0 in
     let d = c.in_err-copy_out.ensures in
-    let calls = subst (λ (n : ℕ). Asked did (CopyCall h.header.ring) {A = Unit {0}} (copies n) (Err f) s t) c.carried_of.ensures d.calls in
+    let calls = subst (λ (n : ℕ). Asked did (CopyCall h.header.ring) {A = Unit {0}} (copies n) (Err f) s t) c.carried.ensures d.calls in
     let p = err_from_is_err_and c.from_residual.result c.from_residual.ensures.1 in
     rw (p.1, p.2) (record {
       in_order = d.in_order;
-      does = λ rs held. copy_fell h rs c.args.ring (m s) held (g.S.Storage.lawful s held.in_order) c.requires.length c.requires.twice c.requires.fits (m t) d.does;
+      does = λ rs held. copy_fell h rs c.args.ring (m s) held (g.met.S.Storage.lawful s held.in_order) c.requires.length c.requires.twice c.requires.fits (m t) d.does;
       calls = copy_calls did h.header c.args.ring (copies (carried 16 h.header h.used)) Head f s t calls;
     })
 
@@ -50,12 +50,12 @@ returns-in_err-sync_inside g c =
     let x = c.in_ok-copy_out.ensures in
     let f = c.in_err-sync_inside.field-0.0 in
     let d = c.in_err-sync_inside.ensures in
-    let calls = subst (λ (n : ℕ). Asked did (CopyCall h.header.ring) {A = Unit {0}} (copies n) (Ok tt) s t) c.carried_of.ensures x.calls in
-    let copy = subst (λ (n : ℕ). OnCopy {G = Unit {0}} 16 h.header.ring n (m s) (m t) (Ok tt)) c.carried_of.ensures x.does in
+    let calls = subst (λ (n : ℕ). Asked did (CopyCall h.header.ring) {A = Unit {0}} (copies n) (Ok tt) s t) c.carried.ensures x.calls in
+    let copy = subst (λ (n : ℕ). OnCopy {G = Unit {0}} 16 h.header.ring n (m s) (m t) (Ok tt)) c.carried.ensures x.does in
     let p = err_from_is_err_and c.from_residual-in_err-sync_inside.result c.from_residual-in_err-sync_inside.ensures.1 in
     rw (p.1, p.2) (record {
       in_order = d.in_order;
-      does = λ rs held. sync_fell h rs c.args.ring (m s) held (g.S.Storage.lawful s held.in_order) c.requires.length c.requires.twice c.requires.fits (m t) (m u) copy.0 copy.1 d.does;
+      does = λ rs held. sync_fell h rs c.args.ring (m s) held (g.met.S.Storage.lawful s held.in_order) c.requires.length c.requires.twice c.requires.fits (m t) (m u) copy.0 copy.1 d.does;
       calls = sync_calls did h.header c.args.ring (copies (carried 16 h.header h.used)) Head f s t u calls d.did;
     })
 
@@ -68,17 +68,17 @@ returns-in_err-put_header g c =
     let t = c.copy_out.new.s in
     let u = c.sync_inside.new.s in
     let v = c.put_header.new.s in
-    let e = c.header_grown-header.ensures in
+    let e = c.grown_header-header.ensures in
     let x = c.in_ok-copy_out.ensures in
     let y = c.in_ok-sync_inside.ensures in
     let f = c.in_err-put_header.field-0.0 in
     let d = c.in_err-put_header.ensures in
-    let calls = subst (λ (n : ℕ). Asked did (CopyCall h.header.ring) {A = Unit {0}} (copies n) (Ok tt) s t) c.carried_of.ensures x.calls in
-    let copy = subst (λ (n : ℕ). OnCopy {G = Unit {0}} 16 h.header.ring n (m s) (m t) (Ok tt)) c.carried_of.ensures x.does in
+    let calls = subst (λ (n : ℕ). Asked did (CopyCall h.header.ring) {A = Unit {0}} (copies n) (Ok tt) s t) c.carried.ensures x.calls in
+    let copy = subst (λ (n : ℕ). OnCopy {G = Unit {0}} 16 h.header.ring n (m s) (m t) (Ok tt)) c.carried.ensures x.does in
     let p = err_from_is_err_and c.from_residual-in_err-put_header.result c.from_residual-in_err-put_header.ensures.1 in
     rw (p.1, p.2) (record {
       in_order = d.in_order;
-      does = λ rs held. header_fell h rs c.args.ring (m s) held (g.S.Storage.lawful s held.in_order) c.requires.length c.requires.twice c.requires.fits (m t) (m u) copy.0 copy.1 (m v) y.does
+      does = λ rs held. header_fell h rs c.args.ring (m s) held (g.met.S.Storage.lawful s held.in_order) c.requires.length c.requires.twice c.requires.fits (m t) (m u) copy.0 copy.1 (m v) y.does
           (subst (λ (q : Header). PutEnded (cell q) (m u) (m v)) e d.does);
       calls = header_calls did h.header c.args.ring (copies (carried 16 h.header h.used)) {A = Head} (Err f) s t u v calls y.did
           (subst (λ (q : Header). Made did {A = Head} (Writing 0 (cell q) ∷ Syncing ∷ []) (Err f) u v) e d.calls);
@@ -87,8 +87,8 @@ returns-in_err-put_header g c =
 pub invariant_of-result : goal.invariant_of-result
 invariant_of-result g c =
     let h = c.args.head in
-    let e = c.header_grown-header.ensures in
-    let law = g.S.Storage.lawful c.args.s.now c.requires.held.1.in_order in
+    let e = c.grown_header-header.ensures in
+    let law = g.met.S.Storage.lawful c.args.s.now c.requires.held.1.in_order in
     let small : h.size ≤ 16777216 = omega (arith, c.requires.held.1.size_is, law.sized.most) in record {
       sound = subst (λ (q : Header). sound 16 h.size q.ring q.count q.first q.last ≡ true) (sym e) (grown_sound h c.args.ring small c.requires.length c.requires.twice c.requires.fits);
       room = omega (arith, c.requires.twice, h.room, ap (λ (q : Header). q.ring) e);
@@ -105,16 +105,16 @@ returns g c =
     let t = c.copy_out.new.s in
     let u = c.sync_inside.new.s in
     let v = c.put_header.new.s in
-    let e = c.header_grown-header.ensures in
+    let e = c.grown_header-header.ensures in
     let x = c.in_ok-copy_out.ensures in
     let y = c.in_ok-sync_inside.ensures in
     let d = c.in_ok-put_header.ensures in
-    let calls = subst (λ (n : ℕ). Asked did (CopyCall h.header.ring) {A = Unit {0}} (copies n) (Ok tt) s t) c.carried_of.ensures x.calls in
-    let copy = subst (λ (n : ℕ). OnCopy {G = Unit {0}} 16 h.header.ring n (m s) (m t) (Ok tt)) c.carried_of.ensures x.does in
+    let calls = subst (λ (n : ℕ). Asked did (CopyCall h.header.ring) {A = Unit {0}} (copies n) (Ok tt) s t) c.carried.ensures x.calls in
+    let copy = subst (λ (n : ℕ). OnCopy {G = Unit {0}} 16 h.header.ring n (m s) (m t) (Ok tt)) c.carried.ensures x.does in
     record {
       in_order = d.in_order;
       does = λ rs held. (
-        grew h rs c.args.ring (m s) held (g.S.Storage.lawful s held.in_order) c.requires.length c.requires.twice c.requires.fits (m t) (m u) copy.0 copy.1 (m v) y.does _ refl e refl
+        grew h rs c.args.ring (m s) held (g.met.S.Storage.lawful s held.in_order) c.requires.length c.requires.twice c.requires.fits (m t) (m u) copy.0 copy.1 (m v) y.does _ refl e refl
             (subst (λ (q : Header). StoreDone 0 (cell q) (m u) (m v)) e d.does),
         e,
         refl,

@@ -1,14 +1,13 @@
 use Rattle.std.proofs.Common.{◌≡◌, ◌-◌, ◌≤◌, ◌++◌, length, take, drop, Ok, Err, arith, length-append, length-drop, length-take}
 use Rattle.std.proofs.lemmas.Result.{err_from_is_err_and}
 use Rattle.storage.specs.Calls.{Reading}
-use Rattle.storage.proofs.Answering.{lost_read}
 use Rattle.storage.proofs.Traces.{asked_one, asked_then, asked_wider}
 use Rattle.card.specs.Reads.{ReadsUpTo}
 use Rattle.card.proofs.Pieces.{two_pieces, filled}
 use Rattle.card.proofs.reads.read_two.Goals as goal
 
-pub returns-in_err-read_inside : goal.returns-in_err-read_inside
-returns-in_err-read_inside g c =
+pub returns-in_err-read_inside-clause-calls : goal.returns-in_err-read_inside-clause-calls
+returns-in_err-read_inside-clause-calls g c =
     let did = g.S.Storage.did in
     let m = g.S.Storage.means in
     let s = c.args.s.now in
@@ -19,11 +18,7 @@ returns-in_err-read_inside g c =
     let d = c.in_err-read_inside.ensures in
     let p = err_from_is_err_and c.from_residual.result c.from_residual.ensures.1 in
     let fits : length (take (n - 0) buf) ≤ length buf = omega (arith, length-take (n - 0) buf) in
-    rw (p.1, p.2) (record {
-      in_order = d.in_order;
-      does = lost_read c.args.at (take (n - 0) buf) c.read_inside.new.buf (m s) (m t) d.does;
-      calls = asked_wider did (ReadsUpTo (length buf)) {A = Unit {0}} 1 2 (Err e) s t (omega arith) (asked_one did (ReadsUpTo (length buf)) {A = Unit {0}} (Reading c.args.at (length (take (n - 0) buf))) (Err e) s t fits d.did);
-    })
+    rw (p.1, p.2) (asked_wider did (ReadsUpTo (length buf)) {A = Unit {0}} 1 2 (Err e) s t (omega arith) (asked_one did (ReadsUpTo (length buf)) {A = Unit {0}} (Reading c.args.at (length (take (n - 0) buf))) (Err e) s t fits d.did))
 
 pub returns : goal.returns
 returns g c =

@@ -1,6 +1,5 @@
 use Rattle.std.proofs.Common.{◌≡◌, ◌+◌, ◌≤◌, length, rules}
 use Rattle.storage.specs.Calls.{Reading}
-use Rattle.storage.specs.Refusals.{told}
 use Rattle.partition.proofs.Calls.{on_read, did_below}
 use Rattle.partition.proofs.PartitionStorage.read.Goals as goal
 
@@ -10,15 +9,15 @@ returns g c =
     let p = c.args.self.now in
     let o = c.args.offset in
     let old = c.args.buf.now in
-    let new = c.read.new.buf in
-    let x = c.read.result in
-    let l = g.S.Storage.lawful p.below c.requires.below in
+    let new = c.read_inside-answer.new.buf in
+    let x = c.read_inside-answer.result in
+    let l = g.met.S.Storage.lawful p.below c.requires.below in
     let u = c.lift.ensures in
     let fits : o + length old ≤ p.size = search rules in
     let long : length new ≡ length old = search rules in
-    let y = on_read (told g.S.Outside.Chain.links g.S.Gone.Chain.links) g.S.Storage.name g.S.Gone.Chain.links p.base p.size (m p.below) (m c.read.new.self) l c.requires c.read.ensures.in_order o old new x c.lift.result fits long c.read.ensures.does u in
+    let y = on_read g.S.Gone.Chain.links p.base p.size (m p.below) (m c.read_inside-answer.new.s) l c.requires c.read_inside-answer.ensures.in_order o old new x c.lift.result fits long c.read_inside-answer.ensures.does u in
     record {
       in_order = y.in_order;
       does = y.does;
-      did = did_below m g.S.Storage.did p c.read.new.self (Reading o (length old)) x c.lift.result fits c.read.ensures.did u y.frame;
+      did = did_below m g.S.Storage.did p c.read_inside-answer.new.s (Reading o (length old)) x c.lift.result fits c.read_inside-answer.ensures.did u y.frame;
     }

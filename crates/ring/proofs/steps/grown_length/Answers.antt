@@ -1,19 +1,15 @@
-use Rattle.std.proofs.Common.{◌-◌, ◌*◌, ◌^◌, sym, refl, ◌∙◌, arith, pow_mono}
-use Rattle.ring.proofs.Doubling.{power_on}
-use Rattle.ring.proofs.RingLengths.{to_stays, to_turn, to_end}
+use Rattle.std.proofs.Common.{ℕ, ◌≤◌, ◌<◌, ◌*◌, ◌^◌, ◌%◌, arith, rules, ap, ◌∙◌}
+use Rattle.std.proofs.lemmas.Iterator.{first_from_Range}
+use borrow.Author.Tests.{tests}
+use Rattle.ring.proofs.RingLengths.{to_found}
 use Rattle.ring.proofs.steps.grown_length.Goals as goal
 
-pub returns-then-need-length : goal.returns-then-need-length
-returns-then-need-length c = sym (c.loop-i.invariant.1 ∙ to_stays (12 - c.loop-i._i) c.loop-i.length c.args.need c.if-need-length.true)
-
-pub overflow_mul-length : goal.overflow_mul-length
-overflow_mul-length c = omega (arith, c.loop-i.invariant.0, pow_mono {i = c.loop-i._i} {j = 11} (omega arith))
-
-pub loop-i-preserved : goal.loop-i-preserved
-loop-i-preserved c = (
-  omega (arith, c.loop-i.invariant.0, power_on (4096 * 2 ^ c.loop-i._i) c.loop-i._i refl),
-  c.loop-i.invariant.1 ∙ to_turn c.loop-i._i c.loop-i.length c.args.need (omega arith) c.if-need-length.false,
-)
+pub overflow_shl-result : goal.overflow_shl-result
+overflow_shl-result c =
+    let f = first_from_Range _ _ _ _ (λ i. c.args.need ≤ c.args.ring * 2 ^ i % 2 ^ 64) (λ i. c.args.ring * 2 ^ i % 2 ^ 64 < c.args.need) c.find-doublings.ensures.ran (λ x q k. search (rules, tests)) (λ x q k. search (rules, tests)) in
+    omega (arith, c.unwrap_or.ensures, (to_found c.args.ring c.args.need c.find-doublings.result (omega arith) f).0)
 
 pub returns : goal.returns
-returns c = sym (c.loop-i.invariant.1 ∙ to_end (12 - c.loop-i._i) c.loop-i.length c.args.need (omega arith))
+returns c =
+    let f = first_from_Range _ _ _ _ (λ i. c.args.need ≤ c.args.ring * 2 ^ i % 2 ^ 64) (λ i. c.args.ring * 2 ^ i % 2 ^ 64 < c.args.need) c.find-doublings.ensures.ran (λ x q k. search (rules, tests)) (λ x q k. search (rules, tests)) in
+    ap (λ (n : ℕ). c.args.ring * 2 ^ n % 2 ^ 64) c.unwrap_or.ensures ∙ (to_found c.args.ring c.args.need c.find-doublings.result (omega arith) f).1

@@ -1,10 +1,12 @@
-use Rattle.std.proofs.Common.{arith}
-use Rattle.ring.specs.Walking.{position}
-use Rattle.ring.proofs.Places.{place_cases}
+use Rattle.std.proofs.Common.{inl, inr, arith}
+use Rattle.std.proofs.lemmas.Bool.{cases_lt}
+use Rattle.ring.proofs.Walks.{walk_sound}
 use Rattle.ring.proofs.walk.Walk.place.Goals as goal
 
-pub returns-then-at-ring : goal.returns-then-at-ring
-returns-then-at-ring c = let k = c.args.self.now in omega (arith, place_cases 16 k.header.ring (position k))
-
-pub returns-else-at-ring : goal.returns-else-at-ring
-returns-else-at-ring c = let k = c.args.self.now in omega (arith, place_cases 16 k.header.ring (position k))
+pub place_of-requires : goal.place_of-requires
+place_of-requires c =
+    let k = c.args.self.now in
+    elim (cases_lt 0 k.header.count) [
+      | inl some ↦ omega (arith, k.room, k.least, (walk_sound k).from some)
+      | inr none ↦ omega (arith, k.room, k.least, (walk_sound k).empty (omega arith))
+    ]
