@@ -49,9 +49,16 @@ fn print_found<S: Storage + Drop>(rt: &impl Print, file: &str, storage: S) -> io
     }
 }
 
-// Mounts the bytes of a card, and opens it.
+// Mounts the bytes of a card, and opens it. What a mount is lent beside them is made here, in the
+// program: nothing below it allocates.
 fn open_bytes(rt: &HostRuntime, file: &str, card: Vec<u8>) -> anyhow::Result<()> {
-    let mut memory = Memory::around(card)?;
+    let heap = rt.alloc();
+    let size = card.len();
+    let mut memory = Memory {
+        durable: card,
+        visible: vec![in heap; 0u8; size]?,
+        torn: vec![in heap; false; size]?,
+    };
     match Image::mount(memory.image_parts()) {
         Ok(image) => print_found(rt, file, image)?,
         Err(refused) => println!(rt; "{file}: no {}", refused.number())?,

@@ -7,7 +7,7 @@ use anyhow::anyhow;
 use cache::cache::Cache;
 use devices::image::Image;
 use devices::memory::Memory;
-use devices::sector::SectorDevice;
+use devices::sector::{SectorDevice, SectorParts, Sectors};
 use partition::Partition;
 use std::io;
 use storage::client::store;
@@ -106,8 +106,14 @@ fn story<C: Cuttable>(
     print_four(rt, card, width)
 }
 
+// Each mount's memory is made here, in the program: nothing below it allocates.
 fn on_image(rt: &HostRuntime) -> anyhow::Result<()> {
-    let mut memory = Memory::around(vec![in rt.alloc(); 0u8; SIZE]?)?;
+    let heap = rt.alloc();
+    let mut memory = Memory {
+        durable: vec![in heap; 0u8; SIZE]?,
+        visible: vec![in heap; 0u8; SIZE]?,
+        torn: vec![in heap; false; SIZE]?,
+    };
     let Ok(mut image) = Image::mount(memory.image_parts()) else {
         return Err(anyhow!("the image does not mount"));
     };
@@ -116,12 +122,19 @@ fn on_image(rt: &HostRuntime) -> anyhow::Result<()> {
     Ok(())
 }
 
+// Not in a `Memory`, which has torn marks beside the bytes.
 fn on_sector_device(rt: &HostRuntime) -> anyhow::Result<()> {
     let heap = rt.alloc();
-    let mut memory = Memory::around(vec![in heap; 0u8; SIZE]?)?;
+    let mut durable = vec![in heap; 0u8; SIZE]?;
+    let mut visible = vec![in heap; 0u8; SIZE]?;
     let old = vec![in heap; b'a'; 2_048]?;
     let new = vec![in heap; b'b'; 1_536]?;
-    let Ok(mut device) = SectorDevice::mount(memory.sector_parts()) else {
+    let parts = SectorParts {
+        durable: &mut durable,
+        visible: &mut visible,
+        medium: Sectors,
+    };
+    let Ok(mut device) = SectorDevice::mount(parts) else {
         return Err(anyhow!("the sector device does not mount"));
     };
     println!(rt; "a sector device, cut by sectors of 512 bytes")?;
@@ -130,7 +143,12 @@ fn on_sector_device(rt: &HostRuntime) -> anyhow::Result<()> {
 }
 
 fn on_stack(rt: &HostRuntime) -> anyhow::Result<()> {
-    let mut memory = Memory::around(vec![in rt.alloc(); 0u8; 4_608]?)?;
+    let heap = rt.alloc();
+    let mut memory = Memory {
+        durable: vec![in heap; 0u8; 4_608]?,
+        visible: vec![in heap; 0u8; 4_608]?,
+        torn: vec![in heap; false; 4_608]?,
+    };
     let Ok(image) = Image::mount(memory.image_parts()) else {
         return Err(anyhow!("the image does not mount"));
     };
