@@ -26,6 +26,10 @@ mounts K s z = record {
   lives = refl;
 }
 
+-- what fits mounts, and a state that is that of a mount means what a mount leaves
+pub mounted : (K : Kind) (d v : List ℕ) (t : List Bool) (h : Held) → Mountable d v t → h ≡ fresh d → Mountable d v t × (h ≡ fresh d) × Fresh d (means_of K h)
+mounted K d v t h m q = (m, q, subst (λ (x : Held). Fresh d (means_of K x)) (sym q) (mounts K d m.sized))
+
 -- a sector device keeps no marks, so a mount asks only for the size and as many visible bytes
 pub sectors_mountable : (m : Sectors) (d v : List ℕ) → SizeRule (length d) → length v ≡ length d → Mountable d v (no_marks m (length d))
 sectors_mountable m d v z l = record { sized = z; visible = l; torn = length-replicate (length d) false }

@@ -1,8 +1,5 @@
-use Rattle.std.proofs.Common.{◌≡◌, length, sym, refl, subst, rules}
-use Rattle.storage.specs.Sizes.{SizeRule}
-use Rattle.storage.specs.Meaning.{Fresh}
-use Rattle.devices.specs.Devices.{Held, means_of}
-use Rattle.devices.proofs.Cutting.{mounts}
+use Rattle.std.proofs.Common.{◌≡◌, length, refl, rules}
+use Rattle.devices.proofs.Cutting.{mounted}
 use Rattle.devices.proofs.Doing.{same_held}
 use Rattle.devices.proofs.device.Device.mount.Goals as goal
 
@@ -11,9 +8,6 @@ use Rattle.devices.proofs.device.Device.mount.Goals as goal
 pub returns : goal.returns
 returns g c =
     let d = c.args.parts.durable.now in
-    let z : SizeRule (length d) = search rules in
-    let long : length (g.M.Medium.torn c.args.parts.medium (length d)) ≡ length d = search rules in (
-      record { sized = z; visible = search rules; torn = long },
-      same_held refl (search rules) (search (rules, long)) refl refl,
-      subst (λ (x : Held). Fresh d (means_of g.M.Medium.rules x)) (sym (same_held refl (search rules) (search (rules, long)) refl refl)) (mounts g.M.Medium.rules d z),
-    )
+    let t = g.M.Medium.torn c.args.parts.medium (length d) in
+    let long : length t ≡ length d = search rules in
+    mounted g.M.Medium.rules d c.args.parts.visible.now t _ (record { sized = search rules; visible = search rules; torn = long }) (same_held refl (search rules) (search (rules, long)) refl refl)
